@@ -2,7 +2,8 @@
 -- (`stands_end`), what was written where it stops (`stands_stop`), and that a sink which promised all bytes promises those that
 -- wait and those to come (`room_put`).
 use Rattle.std.proofs.Common.{◌≡◌, ℕ, ◌+◌, List, [], ◌++◌, Option, length, ap, sym, ◌∙◌, subst, arith, append_assoc, length-append}
-use Rattle.std.specs.Prelude.{Err, Ok, OnErr, Result}
+use Rattle.std.specs.Prelude.{Err, IsOk, Ok, OnErr, Result}
+use Rattle.std.proofs.lemmas.Bool.{true≢false}
 use Rattle.std.proofs.lemmas.List.{append-nil, take-append-le}
 use Rattle.fux_port.specs.Promises.{KeepsBehind}
 use Rattle.fux_port.specs.Written.{StopsShort, appended}
@@ -68,6 +69,10 @@ stands_stop start told new waiting later bytes stands stop =
     (stops_more start new (stands.done ++ waiting) later
     (stops_after start new stands.done waiting
     (subst (λ (t : Option (List ℕ)). StopsShort t new waiting) stands.told stop)))
+
+-- a call that fails didn't go well
+pub not_ok : {X E : Type 0} (result : Result X E) (e : E) → result ≡ Err e → IsOk result → ⊥
+not_ok result e is ok = true≢false (sym (rw is at ok))
 
 -- what holds where a call fails
 pub with_err : {X E : Type 0} (result : Result X E) (P : Type 0) → P → OnErr result P

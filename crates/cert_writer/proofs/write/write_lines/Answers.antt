@@ -1,9 +1,8 @@
 use Rattle.std.proofs.Common.{◌≡◌, ◌+◌, ◌++◌, ℕ, List, length, ap, sym, ◌∙◌, subst, arith}
-use Rattle.std.specs.Prelude.{IsOk}
 use Rattle.std.proofs.lemmas.Result.{on_err_weaker, on_ok_weaker}
 use Rattle.cert_law.specs.Cases.{matter_of}
 use Rattle.cert_writer.specs.Stages.{lines_left}
-use Rattle.fux_port.proofs.Stands.{room_put, stands_end, stands_put, stands_stop, with_err}
+use Rattle.fux_port.proofs.Stands.{not_ok, room_put, stands_end, stands_put, stands_stop, with_err}
 use Rattle.fux_port.specs.Written.{StopsShort, appended}
 use Rattle.cert_writer.proofs.write.write_lines.Goals as goal
 
@@ -64,7 +63,7 @@ returns-clause-err g c =
 
 pub returns-in_err-put-clause-taken : goal.returns-in_err-put-clause-taken
 returns-in_err-put-clause-taken g c = λ promised.
-    absurd (subst IsOk c.in_err-put.is
+    absurd (not_ok _ _ c.in_err-put.was
     (c.put.ensures.taken (length (lines_left (matter_of c.args.case.now) c.loop-line.lines))
     (c.loop-line.invariant.room promised)))
 

@@ -1,8 +1,8 @@
 use Rattle.std.proofs.Common.{◌≡◌, [], ◌++◌, ◌∷◌, length, append_assoc, codes, subst}
-use Rattle.std.specs.Prelude.{IsOk}
 use Rattle.fux_port.specs.Promises.{KeepsRoom}
 use Rattle.fux_port.specs.Written.{appended, StopsShort}
 use Rattle.fux_run.proofs.SinkLemmas.{gets_more, gets_part, gets_written}
+use Rattle.fux_port.proofs.Stands.{not_ok}
 use Rattle.fux_run.proofs.telling.write_pieces.Goals as goal
 
 pub returns-in_err-write_all : goal.returns-in_err-write_all
@@ -10,7 +10,7 @@ returns-in_err-write_all g c =
     rw (append_assoc c.args.before.now c.args.detail.now (10 ∷ []))
     (gets_part g.E.Sink.written g.E.Sink.faults g.E.Sink.serves c.args.err.now c.write_all.new.sink (codes "fux: ")
     (c.args.before.now ++ (c.args.detail.now ++ 10 ∷ [])) c.in_err-write_all.ensures.cause
-    (λ more promised. subst IsOk c.in_err-write_all.is (c.write_all.ensures.beyond more promised))
+    (λ more promised. not_ok _ _ c.in_err-write_all.was (c.write_all.ensures.beyond more promised))
     c.in_err-write_all.ensures.err)
 
 pub returns-in_err-write_all-2 : goal.returns-in_err-write_all-2
@@ -26,7 +26,7 @@ returns-in_err-write_all-2 g c =
     (gets_part W F P c.write_all.new.sink c.write_all-2.new.sink c.args.before.now (c.args.detail.now ++ 10 ∷ [])
     c.in_err-write_all-2.ensures.cause
     (λ more promised.
-    subst IsOk c.in_err-write_all-2.is ((rw c.as_bytes.ensures.value at c.write_all-2.ensures.beyond) more promised))
+    not_ok _ _ c.in_err-write_all-2.was ((rw c.as_bytes.ensures.value at c.write_all-2.ensures.beyond) more promised))
     before))
 
 pub returns-in_err-write_all-3 : goal.returns-in_err-write_all-3
@@ -49,7 +49,7 @@ returns-in_err-write_all-3 g c =
     (gets_part W F P c.write_all-2.new.sink c.write_all-3.new.sink c.args.detail.now (10 ∷ [])
     c.in_err-write_all-3.ensures.cause
     (λ more promised.
-    subst IsOk c.in_err-write_all-3.is ((rw c.as_bytes-2.ensures.value at c.write_all-3.ensures.beyond) more promised))
+    not_ok _ _ c.in_err-write_all-3.was ((rw c.as_bytes-2.ensures.value at c.write_all-3.ensures.beyond) more promised))
     detail)))
 
 pub returns : goal.returns

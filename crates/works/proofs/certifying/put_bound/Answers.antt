@@ -1,9 +1,9 @@
 use Rattle.std.proofs.Common.{◌≡◌, ℕ, List, length, sym, subst}
-use Rattle.std.specs.Prelude.{IsOk}
 use Rattle.fux_port.specs.Promises.{Fails}
 use Rattle.fux_port.specs.Written.{StopsShort, appended}
 use Rattle.works.specs.Composed.{bound_line}
 use Rattle.works.proofs.CertifyLemmas.{bound_part, bound_written}
+use Rattle.fux_port.proofs.Stands.{not_ok}
 use Rattle.works.proofs.certifying.put_bound.Goals as goal
 
 pub returns-in-Ok-write_all : goal.returns-in-Ok-write_all
@@ -21,7 +21,7 @@ returns g c =
     bound_part c.args.bound (Fails g.K.Sink.faults g.K.Sink.serves c.args.out.now c.write_all.new.sink) _ _ (
       c.in-Err.ensures.cause,
       λ promised.
-          subst IsOk c.in-Err.is
+          not_ok _ _ c.in-Err.is
           (c.write_all.ensures.served
           (subst (λ (bytes : List ℕ). g.K.Sink.serves c.args.out.now (length bytes)) (sym line) promised)),
     )
