@@ -7,6 +7,7 @@ use Rattle.fux_port.specs.Promises.{KeepsRoom}
 use Rattle.fux_port.specs.Written.{appended, StopsShort}
 use Rattle.fux_port.proofs.Pieces.{appended-append, stops_after}
 use Rattle.fux_port.proofs.Rises.{rose_later}
+use Rattle.fux_port.proofs.Stands.{not_ok}
 use Rattle.fux_run.specs.Sinks.{Gets}
 
 -- no bytes after those that were written
@@ -47,7 +48,8 @@ module _ {S : Type 0} (written : S → Option (List ℕ)) (faults : S → ℕ) (
       → (serves old (length bytes) → IsOk result) → OnErr result (StopsShort (written old) (written new) bytes)
       → Gets written faults serves old new bytes
   gets_written old new bytes (Ok x) all rose promised part = inl all
-  gets_written old new bytes (Err e) all rose promised part = inr ((rose, promised), part)
+  gets_written old new bytes (Err e) all rose promised part =
+      inr ((rose, λ room. not_ok (Err e) e refl (promised room)), part)
 
   -- a sink that got nothing is as it was
   pub gets_none : (old new : S) → Gets written faults serves old new [] → written new ≡ written old
