@@ -240,6 +240,25 @@ against_in None (Some budget) = None
 against_in (Some word) budget =
     if bytes_eq word (codes "best") then option_map (λ n. Some n) (budget_in budget) else None
 
+-- how many columns of a terminal a printed score has at most: 40 to 1,000, or any number
+abbrev pub wrap_in : Option Text → Option (Option ℕ)
+wrap_in None = Some None
+wrap_in (Some text) = option_map (λ n. Some n) (number_within 40 1000 text)
+
+abbrev pub print_asked : List Row → Option Task
+print_asked rows = do
+  name ← first_of (codes "EX") rows
+  wrap ← wrap_in (first_of (codes "wrap") rows)
+  Some (on_exercise name None (Print wrap))
+
+-- the document with the marks in red, of an exercise or with the species that a list names
+abbrev pub mark_xml_with : Text → Option Text → Option Task
+mark_xml_with name None = Some (on_exercise name None MarkXml)
+mark_xml_with name (Some list) = named_in list >>= λ named. Some (on_mixed name None named mixed.MarkXml)
+
+abbrev pub mark_xml_asked : List Row → Option Task
+mark_xml_asked rows = first_of (codes "EX") rows >>= λ name. mark_xml_with name (first_of (codes "with") rows)
+
 -- weighing the setting of an exercise, alone or against a search, or with the species that a list
 -- names
 abbrev pub weighing_with : Text → Option Text → Option Text → Option ℕ → Option Task
@@ -292,7 +311,7 @@ asks verb.Certify = certify_asked
 asks verb.Check = check_asked
 asks verb.Mark = job_asked Mark
 asks verb.Cantus = job_asked Cantus
-asks verb.Print = job_asked Print
+asks verb.Print = print_asked
 asks verb.ToSmf = job_asked ToSmf
 asks verb.FromSmf = from_smf_asked
 asks verb.Drill = drill_asked
@@ -302,7 +321,7 @@ asks verb.Mixed = mixed_asked
 asks verb.MarkMixed = mark_mixed_asked
 asks verb.Weigh = weigh_asked
 asks verb.ToXml = job_asked ToXml
-asks verb.MarkXml = job_asked MarkXml
+asks verb.MarkXml = mark_xml_asked
 asks verb.NewCantus = new_cantus_asked
 asks verb.CertCantus = certify_cantus_asked
 asks verb.CheckCantus = check_cantus_asked

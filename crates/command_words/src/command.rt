@@ -28,8 +28,9 @@ pub enum Job {
     Weigh { against: Option<u32> },
     /// The marks of its cantus firmus.
     Cantus,
-    /// The printed score of its setting.
-    Print,
+    /// The printed score of its setting, or without one of the sheet to hand out; in systems of at
+    /// most so many columns of a terminal, where a number is given.
+    Print { wrap: Option<u32> },
     /// The MIDI file of its setting.
     ToSmf,
     /// The MusicXML document of its setting, or without one of the sheet to fill in.
@@ -47,6 +48,8 @@ pub enum MixedJob {
     Mark,
     /// What its setting breaks and pays for.
     Weigh,
+    /// The MusicXML document of its setting with the marks in red.
+    MarkXml,
 }
 
 /// The species that is named for each of the four voices.

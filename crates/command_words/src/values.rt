@@ -5,7 +5,7 @@ ghost use Rattle.clap.specs.Words.{first_of, found_of, rows_of};
 ghost use Rattle.fux_text.specs.Names.{mode_named};
 ghost use Rattle.smf_score.specs.Heads.{IsHead};
 ghost use Rattle.text_lines.specs.Numbers.{number_within};
-ghost use Rattle.command_words.specs.Commands.{AreNamed, HasHead, IsWanted, against_in, asks, best_asked, budget_in, canon_asked, certify_asked, certify_cantus_asked, check_asked, check_cantus_asked, class_asked, compose_asked, drill_asked, form_in, from_smf_asked, head_in, is_item, is_set, job_asked, mark_mixed_asked, mixed_asked, named_in, new_cantus_asked, number_at, said_of, task_of, wanted_in, weigh_asked, weighing_with};
+ghost use Rattle.command_words.specs.Commands.{AreNamed, HasHead, IsWanted, against_in, asks, best_asked, budget_in, canon_asked, certify_asked, certify_cantus_asked, check_asked, check_cantus_asked, class_asked, compose_asked, drill_asked, form_in, from_smf_asked, head_in, is_item, is_set, job_asked, mark_mixed_asked, mark_xml_asked, mark_xml_with, mixed_asked, named_in, new_cantus_asked, number_at, print_asked, said_of, task_of, wanted_in, weigh_asked, weighing_with, wrap_in};
 
 use crate::command::{Command, Job, Making, MixedJob, Named, Wanted};
 use crate::verbs::Verb;
@@ -19,6 +19,11 @@ use text_lines::{is_same, parse_number};
 const USUAL_BUDGET: u32 = 1_000_000;
 
 const GREATEST_BUDGET: u32 = 4_000_000;
+
+/// The least and the greatest width of a printed score in systems.
+const LEAST_WRAP: u32 = 40;
+
+const GREATEST_WRAP: u32 = 1_000;
 
 /// The greatest number of a drill.
 const LAST_DRILL: u32 = 1_000_000;
@@ -195,6 +200,28 @@ fn job_asked<'a>(matches: &ArgMatches<'a>, job: Job) -> Option<Command<'a>>
     Some(Command::Make(Making::OnExercise { name, sheet, job }))
 }
 
+/// How many columns of a terminal a printed score has at most, where a number is given.
+fn wrap_of(word: Option<&str>) -> Option<Option<u32>>
+    ensures { result ≡ wrap_in (option_map (λ text. text.now) word.entry) }
+{
+    match word {
+        Some(word) => Some(Some(number_within(word, LEAST_WRAP, GREATEST_WRAP)?)),
+        None => Some(None),
+    }
+}
+
+/// `print`, of the exercise of a file.
+fn print_asked<'a>(matches: &ArgMatches<'a>) -> Option<Command<'a>>
+    ensures asked { option_map task_of result ≡ print_asked (rows_of (found_of matches.now)) }
+    ensures head { IfSome result HasHead }
+{
+    let name = value(matches, "EX")?;
+    let wrap = wrap_of(value(matches, "wrap"))?;
+    let sheet = None;
+    let job = Job::Print { wrap };
+    Some(Command::Make(Making::OnExercise { name, sheet, job }))
+}
+
 /// `fromsmf`, on a MIDI file.
 fn from_smf_asked<'a>(matches: &ArgMatches<'a>) -> Option<Command<'a>>
     ensures asked { option_map task_of result ≡ from_smf_asked (rows_of (found_of matches.now)) }
@@ -317,6 +344,37 @@ fn mark_mixed_asked<'a>(matches: &ArgMatches<'a>) -> Option<Command<'a>>
         named,
         job,
     }))
+}
+
+/// The document with the marks in red, of an exercise or with the species that a list names.
+fn mark_xml_with<'a>(name: &'a str, with: Option<&'a str>) -> Option<Command<'a>>
+    ensures asked { option_map task_of result ≡ mark_xml_with name.entry.now
+        (option_map (λ text. text.now) with.entry) }
+    ensures head { IfSome result HasHead }
+{
+    let sheet = None;
+    let Some(list) = with else {
+        let job = Job::MarkXml;
+        return Some(Command::Make(Making::OnExercise { name, sheet, job }));
+    };
+    let named = named_in(list)?;
+    let job = MixedJob::MarkXml;
+    Some(Command::Make(Making::OnMixed {
+        name,
+        sheet,
+        named,
+        job,
+    }))
+}
+
+/// `markxml`, on the exercise of a file.
+fn mark_xml_asked<'a>(matches: &ArgMatches<'a>) -> Option<Command<'a>>
+    ensures asked { option_map task_of result ≡ mark_xml_asked (rows_of (found_of matches.now)) }
+    ensures head { IfSome result HasHead }
+{
+    let name = value(matches, "EX")?;
+    let with = value(matches, "with");
+    mark_xml_with(name, with)
 }
 
 /// The budget of the search that a setting is weighed against, if it is weighed against one.
@@ -451,7 +509,7 @@ pub fn asked_of<'a>(verb: Verb, matches: &ArgMatches<'a>) -> Option<Command<'a>>
         Verb::Check => check_asked(matches),
         Verb::Mark => job_asked(matches, Job::Mark),
         Verb::Cantus => job_asked(matches, Job::Cantus),
-        Verb::Print => job_asked(matches, Job::Print),
+        Verb::Print => print_asked(matches),
         Verb::ToSmf => job_asked(matches, Job::ToSmf),
         Verb::FromSmf => from_smf_asked(matches),
         Verb::Drill => drill_asked(matches),
@@ -461,7 +519,7 @@ pub fn asked_of<'a>(verb: Verb, matches: &ArgMatches<'a>) -> Option<Command<'a>>
         Verb::MarkMixed => mark_mixed_asked(matches),
         Verb::Weigh => weigh_asked(matches),
         Verb::ToXml => job_asked(matches, Job::ToXml),
-        Verb::MarkXml => job_asked(matches, Job::MarkXml),
+        Verb::MarkXml => mark_xml_asked(matches),
         Verb::NewCantus => new_cantus_asked(matches),
         Verb::CertCantus => certify_cantus_asked(matches),
         Verb::CheckCantus => check_cantus_asked(matches),

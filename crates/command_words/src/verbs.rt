@@ -19,7 +19,7 @@ pub enum Verb {
     Mark,
     /// The marks of a cantus firmus.
     Cantus,
-    /// The printed score of a setting.
+    /// The printed score of a setting, or of the sheet to hand out.
     Print,
     /// The MIDI file of a setting.
     ToSmf,
@@ -106,6 +106,8 @@ pub enum Part {
     MayWith,
     /// The search that a setting is weighed against.
     Against,
+    /// How many columns of a terminal a printed score has at most.
+    Wrap,
     /// The mode of a MIDI file.
     Mode,
     /// The species of a MIDI file.
@@ -149,7 +151,7 @@ impl Verb {
             Verb::Check => ("check", &[Part::Exercise, Part::Certificate, Part::Sheet]),
             Verb::Mark => ("mark", &[Part::Exercise]),
             Verb::Cantus => ("cantus", &[Part::Exercise]),
-            Verb::Print => ("print", &[Part::Exercise]),
+            Verb::Print => ("print", &[Part::Exercise, Part::Wrap]),
             Verb::ToSmf => ("tosmf", &[Part::Exercise]),
             Verb::FromSmf => (
                 "fromsmf",
@@ -181,7 +183,7 @@ impl Verb {
                 ],
             ),
             Verb::ToXml => ("toxml", &[Part::Exercise]),
-            Verb::MarkXml => ("markxml", &[Part::Exercise]),
+            Verb::MarkXml => ("markxml", &[Part::Exercise, Part::MayWith]),
             Verb::NewCantus => (
                 "newcantus",
                 &[
@@ -239,6 +241,7 @@ impl Part {
             Part::Form => "form",
             Part::With | Part::MayWith => "with",
             Part::Against => "against",
+            Part::Wrap => "wrap",
             Part::Mode => "mode",
             Part::Species => "species",
             Part::Voice => "voice",
@@ -262,7 +265,8 @@ impl Part {
             | Part::Bars
             | Part::Low
             | Part::High => Kind::Word,
-            Part::Sheet | Part::Budget | Part::Form | Part::MayWith | Part::Against => Kind::Option,
+            Part::Sheet | Part::Budget | Part::Form | Part::MayWith | Part::Against | Part::Wrap =>
+                Kind::Option,
             Part::With | Part::Mode | Part::Species | Part::Voice | Part::Cantus => Kind::Needed,
             Part::TopFirst | Part::BySharper => Kind::Flag,
         }

@@ -3,5 +3,8 @@
 
 mod cells;
 mod rows;
+mod shown;
+mod systems;
 
 pub use rows::print;
+pub use systems::print_wrapped;

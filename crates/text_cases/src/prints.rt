@@ -2,31 +2,137 @@
 
 use crate::agree::agree;
 use fux_grid::{Cell, Column, Exercise, RangeLine, Score};
-use fux_pitch::{AnyList, Mode, parse_pitch};
-use score_print::print;
+use fux_pitch::{AnyList, Mode, Pitch, parse_pitch};
+use score_print::{print, print_wrapped};
 use std::alloc::Global;
 use std::test::Fail;
 
-/// Printed scores of two voices, the higher one first.
-const PRINTS: [&str; 4] = [
-    "1 | D5 - - - - - - - | C♯5 - - - - - - - | D5 - - - - - - - |\n\
-    0 | D4 - - - - - - - | E4  - - - - - - - | D4 - - - - - - - |\n",
-    "1 | .  . . . . . . . | .  . . . C4 - - - | C4 - - C3 B2 G3 - - | E♯3 G3 - G3 . . . E3 |\n\
-    0 | F3 - - - - - - - | A3 - - - -  - - - | G3 - - -  -  -  - - | F3  -  - -  - - - -  |\n",
-    "1 | F4 - - - -  - - - | E♯4 - - - -  - - - | F♯4 - - - -  - - - | F♭4 - - - -  - - - | C5 - - - -  - - - \
-    | G4 - - - -  - - - | F4 - - - - - - - |\n\
-    0 | .  . . . F4 - - - | D4  - - - C4 - - - | -   - - - B3 - - - | -   - - - C4 - - - | D4 - - - C4 - - - \
-    | B3 - - - E3 - - - | F3 - - - - - - - |\n",
-    "1 | .  . . . . . G♯2 . | .  . . E1 - - - E♯2 | G2 - B♯4 - - - . G♭5 | B♯5 - A5 - - - - - | -  - - - - - - - |\n\
-    0 | C2 - - - - - -   - | D2 - - -  - - - -   | C2 - -   - - - - -   | D2  - -  - - - - - | C2 - - - - - - - |\n",
+/// Printed scores of two voices, the higher one first, each behind the voice that has the cantus.
+const PRINTS: [(u8, &str); 4] = [
+    (
+        0,
+        "1 | D5 - - - - - - - | C♯5 - - - - - - - | D5 - - - - - - - |\n\
+        0 | D4 - - - - - - - | E4  - - - - - - - | D4 - - - - - - - |\n",
+    ),
+    (
+        0,
+        "1 | .  . . . . . . . | .  . . . C4 - - - | C4 - - C3 B2 G3 - - | E♯3 G3 - G3 . . . E3 |\n\
+        0 | F3 - - - - - - - | A3 - - - -  - - - | G3 - - -  -  -  - - | F3  -  - -  - - - -  |\n",
+    ),
+    (
+        1,
+        "1 | F4 - - - -  - - - | E♯4 - - - -  - - - | F♯4 - - - -  - - - | F♭4 - - - -  - - - | C5 - - - -  - - - \
+        | G4 - - - -  - - - | F4 - - - - - - - |\n\
+        0 | .  . . . F4 - - - | D4  - - - C4 - - - | -   - - - B3 - - - | -   - - - C4 - - - | D4 - - - C4 - - - \
+        | B3 - - - E3 - - - | F3 - - - - - - - |\n",
+    ),
+    (
+        0,
+        "1 | .  . . . . . G♯2 . | .  . . E1 - - - E♯2 | G2 - B♯4 - - - . G♭5 | B♯5 - A5 - - - - - | -  - - - - - - - |\n\
+        0 | C2 - - - - - -   - | D2 - - -  - - - -   | C2 - -   - - - - -   | D2  - -  - - - - - | C2 - - - - - - - |\n",
+    ),
 ];
 
-/// A valid exercise of two voices with so many bars.
-fn exercise(alloc: Global, bars: u8) -> Result<Exercise<'static>, Fail> {
+/// A text, the columns of a terminal that its systems have at most, where it is printed in systems,
+/// and what is printed of it.
+struct Sheet {
+    text: &'static str,
+    wrap: Option<u32>,
+    printed: &'static str,
+}
+
+/// Sheets to hand out, and printed scores in systems.
+const SHEETS: [Sheet; 4] = [
+    Sheet {
+        text: "fux 2\n\
+            mode dorian\n\
+            voices 2\n\
+            bars 3\n\
+            species 1 voice 1\n\
+            cantus 0 D4 E4 D4\n\
+            range 1 A4 D5\n\
+            given 1 2 r:2 ?:3 C#5:3\n\
+            given 1 3 _:8\n",
+        wrap: None,
+        printed: "1 |                  | .  .       C♯5 - - | -  - - - - - - - |\n\
+            0 | D4 - - - - - - - | E4 - - - - -   - - | D4 - - - - - - - |\n",
+    },
+    Sheet {
+        text: "fux 2\n\
+            mode dorian\n\
+            voices 2\n\
+            bars 3\n\
+            species 1 voice 1\n\
+            cantus 0 D4 E4 D4\n\
+            range 1 A4 D5\n\
+            given 1 2 r:2 ?:3 C#5:3\n\
+            given 1 3 _:8\n",
+        wrap: Some(40),
+        printed: "\x20 1                  \n\
+            1 |                  |\n\
+            0 | D4 - - - - - - - |\n\
+            \x20 2                    \n\
+            1 | .  .       C♯5 - - |\n\
+            0 | E4 - - - - -   - - |\n\
+            \x20 3                  \n\
+            1 | -  - - - - - - - |\n\
+            0 | D4 - - - - - - - |\n",
+    },
+    Sheet {
+        text: "fux 1\n\
+            mode dorian\n\
+            voices 2\n\
+            bars 10\n\
+            species 1 voice 1\n\
+            cantus 0 D4 E4 F4 E4 D4 E4 F4 E4 F4 D4\n\
+            range 1 A4 D5\n",
+        wrap: Some(40),
+        printed: "\x20 1    2    3    4    5    6    7    \n\
+            1 |    |    |    |    |    |    |    |\n\
+            0 | D4 | E4 | F4 | E4 | D4 | E4 | F4 |\n\
+            \x20 8    9    10   \n\
+            1 |    |    |    |\n\
+            0 | E4 | F4 | D4 |\n",
+    },
+    Sheet {
+        text: "fux 1\n\
+            mode dorian\n\
+            voices 2\n\
+            bars 4\n\
+            species 1 voice 1\n\
+            cantus 0 D4 F4 E4 D4\n\
+            range 1 A4 D5\n\
+            sing 1 A4:8 | A4:8 | B4:4 C5:4 | D5:8\n",
+        wrap: Some(45),
+        printed: "\x20 1                  2                  \n\
+            1 | A4 - - - - - - - | A4 - - - - - - - |\n\
+            0 | D4 - - - - - - - | F4 - - - - - - - |\n\
+            \x20 3                   4                  \n\
+            1 | B4 - - - C5 - - - | D5 - - - - - - - |\n\
+            0 | E4 - - - -  - - - | D4 - - - - - - - |\n",
+    },
+];
+
+/// The pitch of a voice where each bar begins.
+fn pitches(alloc: Global, score: &Score, v: usize) -> Result<Vec<Pitch>, Fail> {
+    let mut pitches = Vec::new(alloc);
+    for bar in 0..score.len() / 8 {
+        let pitch = score
+            .cell(v, 8 * bar)
+            .pitch()
+            .ok_or("a rest in the cantus")?;
+        pitches.push(pitch)?;
+    }
+    Ok(pitches)
+}
+
+/// An exercise of two voices with this setting, whose cantus is in one of them.
+fn exercise(alloc: Global, score: Score, cantus_voice: u8) -> Result<Exercise<'static>, Fail> {
+    let free = if cantus_voice == 0 { 1 } else { 0 };
     let low = parse_pitch(b"C2").ok_or("C2")?;
     let high = parse_pitch(b"C6").ok_or("C6")?;
     let range = RangeLine {
-        voice: 1,
+        voice: free,
         low,
         high,
         bars: None,
@@ -34,16 +140,16 @@ fn exercise(alloc: Global, bars: u8) -> Result<Exercise<'static>, Fail> {
     Ok(Exercise {
         mode: Mode::Dorian,
         voices: 2,
-        bars,
+        bars: u8::try_from(score.len() / 8)?,
         species: 1,
-        species_voice: 1,
+        species_voice: free,
         mixed: None,
-        cantus_voice: 0,
-        cantus: AnyList::new(vec![in alloc; low; bars as usize]?),
+        cantus_voice,
+        cantus: AnyList::new(pitches(alloc, &score, usize::from(cantus_voice))?),
         ranges: AnyList::new(Vec::from_array(alloc, [range])?),
         relax: AnyList::new(Vec::new(alloc)),
         given: AnyList::new(Vec::new(alloc)),
-        setting: None,
+        setting: Some(score),
     })
 }
 
@@ -101,26 +207,46 @@ fn score_of(alloc: Global, lines: &str) -> Result<Score, Fail> {
     score(alloc, &low, &high)
 }
 
-/// What is printed of a score.
-fn printed(alloc: Global, ex: &Exercise, score: &Score) -> Result<String, Fail> {
-    if !ex.is_valid() || ex.voices != score.voices() || score.len() != 8 * usize::from(ex.bars) {
-        return Err("another size".into());
+/// What is printed of an exercise, in systems of at most so many columns where they are given.
+fn printed(alloc: Global, ex: &Exercise, wrap: Option<u32>) -> Result<String, Fail> {
+    if !ex.is_valid() {
+        return Err("no valid exercise".into());
     }
-    Ok(print(alloc, ex, score)?)
+    match wrap {
+        Some(columns) => Ok(print_wrapped(alloc, ex, columns)?),
+        None => Ok(print(alloc, ex)?),
+    }
 }
 
-/// The lines, read and printed again.
-fn printed_again(alloc: Global, lines: &str) -> Result<String, Fail> {
+/// The lines, read and printed again, where the cantus is in one of them.
+fn printed_again(alloc: Global, lines: &str, cantus_voice: u8) -> Result<String, Fail> {
     let score = score_of(alloc, lines)?;
-    let ex = exercise(alloc, u8::try_from(score.len() / 8)?)?;
-    printed(alloc, &ex, &score)
+    let ex = exercise(alloc, score, cantus_voice)?;
+    printed(alloc, &ex, None)
+}
+
+/// What is printed of a text.
+fn sheet_printed(alloc: Global, sheet: &Sheet) -> Result<String, Fail> {
+    match fux_text::read(alloc, sheet.text.as_bytes()) {
+        Ok(ex) => printed(alloc, &ex, sheet.wrap),
+        Err(_) => Err("no text".into()),
+    }
 }
 
 #[test]
 fn scores_are_printed(rt: HostRuntime) -> Result<(), Fail> {
-    for lines in &PRINTS {
-        let printed = printed_again(rt.alloc(), lines)?;
+    for (cantus_voice, lines) in &PRINTS {
+        let printed = printed_again(rt.alloc(), lines, *cantus_voice)?;
         agree(&rt, "printed again", printed.as_str(), lines);
+    }
+    Ok(())
+}
+
+#[test]
+fn sheets_are_printed(rt: HostRuntime) -> Result<(), Fail> {
+    for sheet in &SHEETS {
+        let printed = sheet_printed(rt.alloc(), sheet)?;
+        agree(&rt, sheet.text, printed.as_str(), sheet.printed);
     }
     Ok(())
 }

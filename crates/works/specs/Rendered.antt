@@ -1,11 +1,12 @@
--- What `print`, `tosmf`, `toxml` and `markxml` write: the setting of an exercise in another form.
-use Rattle.std.specs.Prelude.{◌≡◌, ℕ, List, None, Some, Ok, Err, length, map, nat_lt}
+-- What `print`, `tosmf`, `toxml` and `markxml` write: an exercise with its setting in another form.
+use Rattle.std.specs.Prelude.{◌≡◌, ℕ, List, Option, None, Some, Ok, Err, length, map, nat_lt}
 use Rattle.std.specs.Borrow.{Bor}
 use Rattle.fux_grid.specs.declared.exercise.Exercise.{Exercise}
 use Rattle.fux_grid.specs.Grid.{Grid}
 use Rattle.score_marker.specs.declared.mark.Mark.{Mark}
 use Rattle.score_marker.specs.Marks.{AreMarks}
-use Rattle.score_print.specs.Printed.{printed_score}
+use Rattle.score_print.specs.Printed.{printed_sheet}
+use Rattle.score_print.specs.Systems.{IsWrapped}
 use Rattle.score_xml.specs.Documents.{document}
 use Rattle.smf_score.specs.Written.{smf_of}
 use Rattle.written_notes.specs.declared.marks.SheetMark.{SheetMark}
@@ -26,9 +27,15 @@ abbrev pub Renders : Exercise → (Grid → List ℕ) → Work → Type 0
 Renders ex form (Ok output) = IsInForm ex form output
 Renders ex form (Err refusal) = RefusesNoSetting ex refusal
 
--- `print` makes this of an exercise
-abbrev pub Prints : Exercise → Work → Type 0
-Prints ex = Renders ex (λ score. printed_score ex.voices ex.bars score.columns)
+-- bytes are the printed score of an exercise, in systems where a width is given
+abbrev pub IsPrinted : Option ℕ → Exercise → List ℕ → Type 0
+IsPrinted None ex bytes = bytes ≡ printed_sheet ex
+IsPrinted (Some columns) ex bytes = IsWrapped ex columns bytes
+
+-- `print` makes this of an exercise, with or without a setting
+abbrev pub Prints : Option ℕ → Exercise → Work → Type 0
+Prints wrap ex (Ok output) = IsPrinted wrap ex output.bytes × (output.verdict ≡ Favorable)
+Prints wrap ex (Err refusal) = ⊥
 
 -- `tosmf` makes this of an exercise
 abbrev pub WritesSmf : Exercise → Work → Type 0
@@ -43,18 +50,24 @@ WritesXml ex (Err refusal) = ⊥
 abbrev pub shown_mark : Mark → SheetMark
 shown_mark mark = record { bar = mark.bar; slot = mark.slot; rule = mark.rule; voices = mark.voices }
 
--- an output is the document of the setting of an exercise with exactly its marks in red
-pub record IsMarkedDocument (ex : Exercise) (output : Output) : Type 0 where
-  pub score : Grid
-  pub given : ex.setting ≡ Some score
-  pub marks : List Mark
-  pub exact : AreMarks ex score.columns marks
+-- an output is the document of an exercise with the notes of these marks in red
+pub record ShowsMarks (ex : Exercise) (marks : List Mark) (output : Output) : Type 0 where
   pub shown : Bor (List SheetMark)
   pub are_shown : shown.now ≡ map shown_mark marks
   pub bytes : output.bytes ≡ document ex (Some shown)
   pub verdict : output.verdict ≡ marks_verdict (nat_lt 0 (length marks))
 
--- `markxml` makes this of an exercise
-abbrev pub MarksXml : Exercise → Work → Type 0
-MarksXml ex (Ok output) = IsMarkedDocument ex output
-MarksXml ex (Err refusal) = RefusesNoSetting ex refusal
+-- an output is the document of the setting of an exercise with exactly the marks in red that it has
+-- by the rules of another one
+pub record IsMarkedDocument (ex rules : Exercise) (output : Output) : Type 0 where
+  pub score : Grid
+  pub given : ex.setting ≡ Some score
+  pub marks : List Mark
+  pub exact : AreMarks rules score.columns marks
+  pub told : ShowsMarks ex marks output
+
+-- `markxml` makes this of an exercise by the rules of another one, which is the mixed one where
+-- species are named, and else itself
+abbrev pub MarksXml : Exercise → Exercise → Work → Type 0
+MarksXml ex rules (Ok output) = IsMarkedDocument ex rules output
+MarksXml ex rules (Err refusal) = RefusesNoSetting ex refusal

@@ -44,10 +44,10 @@ MakesOf (Best budget) sheet ex = ComposesSharply budget sheet ex
 MakesOf Mark sheet ex = Marks ex
 MakesOf (Weigh against) sheet ex = Weighs against sheet ex
 MakesOf Cantus sheet ex = CantusMarks ex
-MakesOf Print sheet ex = Prints ex
+MakesOf (Print wrap) sheet ex = Prints wrap ex
 MakesOf ToSmf sheet ex = WritesSmf ex
 MakesOf ToXml sheet ex = WritesXml ex
-MakesOf MarkXml sheet ex = MarksXml ex
+MakesOf MarkXml sheet ex = MarksXml ex ex
 
 -- a job makes this of the text of an exercise, and of the file of a sheet where one is given
 abbrev pub MakesOfText : Job → List (List ℕ) → List ℕ → Work → Type 0

@@ -176,7 +176,7 @@ fn of_exercise<R: Threads + Sync>(
         Job::Mark => mark(alloc, exercise),
         Job::Weigh { against } => weigh(rt, alloc, exercise, sheet, against),
         Job::Cantus => cantus(alloc, exercise),
-        Job::Print => print(alloc, exercise),
+        Job::Print { wrap } => print(alloc, exercise, wrap),
         Job::ToSmf => to_smf(alloc, exercise),
         Job::ToXml => to_xml(alloc, exercise),
         Job::MarkXml => mark_xml(alloc, exercise),

@@ -1,4 +1,4 @@
-//! The commands `mixed` and `markmixed`.
+//! The commands `mixed` and `markmixed`, and `markxml` with species that are named.
 
 ghost use Rattle.std.specs.Prelude.{◌≡◌, ◌++◌, IfErr, IfOk, string_bytes, true};
 ghost use Rattle.fux_grid.specs.Exercises.{HasCantus, IsComplete, IsValid};
@@ -13,6 +13,7 @@ ghost use Rattle.command_words.specs.Commands.{AreNamed, on_mixed, sheet_named};
 ghost use Rattle.works.specs.Composed.{penalty_line};
 ghost use Rattle.works.specs.Mixed.{ComposesMixed, MakesMixed, MakesOfMixed, MarksMixed, NamesSpecies, TellsMixed};
 ghost use Rattle.works.specs.Endings.{IsMade};
+ghost use Rattle.works.specs.Rendered.{MarksXml};
 ghost use Rattle.works.specs.Searched.{IsSpaceOf, StopsAtWidth};
 ghost use Rattle.works.specs.Works.{Answers, OnTexts};
 
@@ -24,6 +25,7 @@ use crate::exercise::{LONGEST_TEXT, exercise_of};
 use crate::making::{read_weights, said};
 use crate::marking::output_of;
 use crate::refusal::Refusal;
+use crate::rendering::marked_document;
 use crate::weighing::sheet_of;
 use crate::work::{Output, Stop, Verdict};
 use class_marker::{Text, lines_of};
@@ -102,6 +104,7 @@ fn of_mixed(alloc: Global, m: &Mixed<'_>, sheet: &Sheet, job: MixedJob) -> Resul
         MixedJob::Compose { budget } => compose_mixed(alloc, m, sheet, budget),
         MixedJob::Mark => mark_mixed(alloc, m),
         MixedJob::Weigh => weigh_mixed(alloc, m, sheet),
+        MixedJob::MarkXml => mark_xml_mixed(alloc, m),
     }
 }
 
@@ -192,4 +195,16 @@ fn mark_mixed(alloc: Global, m: &Mixed<'_>) -> Result<Output, Stop>
     let marks = mixed_marks(alloc, m, score)?;
     let lines = lines_of(alloc, &mixed_as(m.ex, m.species), &marks)?;
     Ok(output_of(lines))
+}
+
+/// The MusicXML document of the setting of a mixed exercise, with the notes of its marks in red.
+fn mark_xml_mixed(alloc: Global, m: &Mixed<'_>) -> Result<Output, Stop>
+    requires { IsMixed m.now }
+    ensures { Answers (MarksXml m.now.ex.now (exercise_of m.now)) result }
+{
+    let Some(score) = &m.ex.setting else {
+        return Err(Stop::Refused(Refusal::NoSetting));
+    };
+    let marks = mixed_marks(alloc, m, score)?;
+    Ok(marked_document(alloc, m.ex, marks.as_slice())?)
 }

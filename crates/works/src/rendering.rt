@@ -3,7 +3,7 @@
 ghost use Rattle.std.specs.Prelude.{◌≡◌, IfOk, length, map, nat_lt};
 ghost use Rattle.fux_grid.specs.Exercises.{IsValid};
 ghost use Rattle.works.specs.Marked.{marks_verdict};
-ghost use Rattle.works.specs.Rendered.{MarksXml, Prints, WritesSmf, WritesXml, shown_mark};
+ghost use Rattle.works.specs.Rendered.{MarksXml, Prints, ShowsMarks, WritesSmf, WritesXml, shown_mark};
 ghost use Rattle.works.specs.Works.{Answers};
 
 use crate::refusal::Refusal;
@@ -11,22 +11,22 @@ use crate::work::{Output, Stop, Verdict};
 use fux_grid::Exercise;
 use fux_pitch::Memory;
 use score_marker::{Mark, marks};
+use score_print::print_wrapped;
 use score_xml::score_xml;
 use std::alloc::Global;
 use written_notes::SheetMark;
 
-/// The printed score of the setting of an exercise.
-pub fn print(alloc: Global, ex: &Exercise) -> Result<Output, Stop>
+/// The printed score of an exercise: of its setting, or without one of the sheet to hand out; in
+/// systems where a width is given.
+pub fn print(alloc: Global, ex: &Exercise, wrap: Option<u32>) -> Result<Output, Stop>
     requires { IsValid ex.now }
-    ensures { Answers (Prints ex.now) result }
+    ensures { Answers (Prints wrap ex.now) result }
 {
-    match &ex.setting {
-        Some(score) => Ok(Output::of_text(
-            Verdict::Favorable,
-            score_print::print(alloc, ex, score)?,
-        )),
-        None => Err(Stop::Refused(Refusal::NoSetting)),
-    }
+    let text = match wrap {
+        Some(columns) => print_wrapped(alloc, ex, columns)?,
+        None => score_print::print(alloc, ex)?,
+    };
+    Ok(Output::of_text(Verdict::Favorable, text))
 }
 
 /// The MIDI file of the setting of an exercise.
@@ -85,16 +85,24 @@ fn verdict_of(marks: &[Mark]) -> Verdict
     }
 }
 
+/// The MusicXML document of an exercise, with the notes of these marks in red.
+pub fn marked_document(alloc: Global, ex: &Exercise, marks: &[Mark]) -> Result<Output, Memory>
+    requires { IsValid ex.now }
+    ensures { IfOk result (ShowsMarks ex.now marks.now) }
+{
+    let shown = shown_marks(alloc, marks)?;
+    let text = score_xml(alloc, ex, Some(shown.as_slice()))?;
+    Ok(Output::of_text(verdict_of(marks), text))
+}
+
 /// The MusicXML document of the setting of an exercise, with the notes of its marks in red.
 pub fn mark_xml(alloc: Global, ex: &Exercise) -> Result<Output, Stop>
     requires { IsValid ex.now }
-    ensures { Answers (MarksXml ex.now) result }
+    ensures { Answers (MarksXml ex.now ex.now) result }
 {
     let Some(score) = &ex.setting else {
         return Err(Stop::Refused(Refusal::NoSetting));
     };
     let marks = marks(alloc, ex, score)?;
-    let shown = shown_marks(alloc, marks.as_slice())?;
-    let text = score_xml(alloc, ex, Some(shown.as_slice()))?;
-    Ok(Output::of_text(verdict_of(marks.as_slice()), text))
+    Ok(marked_document(alloc, ex, marks.as_slice())?)
 }

@@ -1,3 +1,4 @@
+use Rattle.sheet_laws.proofs.ReadingLemmas.{marks-at, notes-fill, notes-say, ties-join}
 use Rattle.sheet_laws.proofs.SignLemmas.{signs-heard}
 use Rattle.written_notes.proofs.ValueSums.{values-add-up}
 use Rattle.sheet_laws.proofs.sheets_read_right.Goals as goal
@@ -7,3 +8,15 @@ returns-clause-signs c = signs-heard
 
 pub returns-clause-values : goal.returns-clause-values
 returns-clause-values c = values-add-up
+
+pub returns-clause-filled : goal.returns-clause-filled
+returns-clause-filled c = notes-fill
+
+pub returns-clause-cells : goal.returns-clause-cells
+returns-clause-cells c = notes-say
+
+pub returns-clause-ties : goal.returns-clause-ties
+returns-clause-ties c = ties-join
+
+pub returns-clause-marks : goal.returns-clause-marks
+returns-clause-marks c = marks-at
