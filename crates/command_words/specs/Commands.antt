@@ -14,7 +14,7 @@ use Rattle.text_lines.specs.Numbers.{number_within}
 use Rattle.command_words.specs.declared.command.Command.{Command}
 use Rattle.command_words.specs.declared.command.Command.TheVariants.{Certify, CertifyCantus, Make}
 use Rattle.command_words.specs.declared.command.Job.{Job}
-use Rattle.command_words.specs.declared.command.Job.TheVariants.{Compose, Best, Mark, Weigh, Cantus, Print, ToSmf, ToXml, MarkXml}
+use Rattle.command_words.specs.declared.command.Job.TheVariants.{Compose, Best, Mark, Weigh, Cantus, Print, ToSmf, ToXml, MarkXml, Picture, MarkPicture}
 use Rattle.command_words.specs.declared.command.MixedJob.{MixedJob}
 use Rattle.command_words.specs.declared.command.MixedJob.TheVariants as mixed
 use Rattle.command_words.specs.declared.command.Making.{Making}
@@ -272,6 +272,20 @@ weigh_asked rows = do
   against ← against_in (first_of (codes "against") rows) (first_of (codes "budget") rows)
   weighing_with name (first_of (codes "sheet") rows) (first_of (codes "with") rows) against
 
+abbrev pub picture_asked : List Row → Option Task
+picture_asked rows = do
+  name ← first_of (codes "EX") rows
+  Some (on_exercise name (first_of (codes "sheet") rows) (Picture (is_set (codes "penalty") rows)))
+
+-- a picture with marks, by the rules of the exercise or with the species that a list names
+abbrev pub marked_picture_with : Text → Option Text → Option Task
+marked_picture_with name None = Some (on_exercise name None MarkPicture)
+marked_picture_with name (Some list) = named_in list >>= λ named. Some (on_mixed name None named mixed.Picture)
+
+abbrev pub mark_picture_asked : List Row → Option Task
+mark_picture_asked rows =
+    first_of (codes "EX") rows >>= λ name. marked_picture_with name (first_of (codes "with") rows)
+
 -- what is wanted, where its range doesn't fall
 abbrev pub if_rising : Wanted → Option Wanted
 if_rising wanted = if int_le (key_of wanted.low) (key_of wanted.high) then Some wanted else None
@@ -322,6 +336,8 @@ asks verb.MarkMixed = mark_mixed_asked
 asks verb.Weigh = weigh_asked
 asks verb.ToXml = job_asked ToXml
 asks verb.MarkXml = mark_xml_asked
+asks verb.Picture = picture_asked
+asks verb.MarkPicture = mark_picture_asked
 asks verb.NewCantus = new_cantus_asked
 asks verb.CertCantus = certify_cantus_asked
 asks verb.CheckCantus = check_cantus_asked

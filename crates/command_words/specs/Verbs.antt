@@ -15,7 +15,8 @@ abbrev pub verbs : List Verb
 verbs =
     verb.Compose ∷ verb.Best ∷ verb.Certify ∷ verb.Check ∷ verb.Mark ∷ verb.Cantus ∷ verb.Print ∷ verb.ToSmf
     ∷ verb.FromSmf ∷ verb.Drill ∷ verb.Class ∷ verb.Canon ∷ verb.Mixed ∷ verb.MarkMixed ∷ verb.Weigh ∷ verb.ToXml
-    ∷ verb.MarkXml ∷ verb.NewCantus ∷ verb.CertCantus ∷ verb.CheckCantus ∷ []
+    ∷ verb.MarkXml ∷ verb.Picture ∷ verb.MarkPicture ∷ verb.NewCantus ∷ verb.CertCantus
+    ∷ verb.CheckCantus ∷ []
 
 -- the row of a command: its first word, and what it takes behind that
 abbrev pub row_of : Verb → Text × List Part
@@ -36,6 +37,8 @@ row_of verb.MarkMixed = (codes "markmixed", part.Exercise ∷ part.With ∷ [])
 row_of verb.Weigh = (codes "weigh", part.Exercise ∷ part.Sheet ∷ part.Budget ∷ part.MayWith ∷ part.Against ∷ [])
 row_of verb.ToXml = (codes "toxml", part.Exercise ∷ [])
 row_of verb.MarkXml = (codes "markxml", part.Exercise ∷ part.MayWith ∷ [])
+row_of verb.Picture = (codes "picture", part.Exercise ∷ part.Sheet ∷ part.Penalty ∷ [])
+row_of verb.MarkPicture = (codes "markpicture", part.Exercise ∷ part.MayWith ∷ [])
 row_of verb.NewCantus = (codes "newcantus", part.InMode ∷ part.Bars ∷ part.Low ∷ part.High ∷ part.Sheet ∷ part.Budget ∷ [])
 row_of verb.CertCantus = (codes "certcantus", part.InMode ∷ part.Bars ∷ part.Low ∷ part.High ∷ part.Sheet ∷ part.Budget ∷ [])
 row_of verb.CheckCantus = (codes "checkcantus", part.InMode ∷ part.Bars ∷ part.Low ∷ part.High ∷ part.Certificate ∷ part.Sheet ∷ [])
@@ -58,6 +61,7 @@ name_of part.With = codes "with"
 name_of part.MayWith = codes "with"
 name_of part.Against = codes "against"
 name_of part.Wrap = codes "wrap"
+name_of part.Penalty = codes "penalty"
 name_of part.Mode = codes "mode"
 name_of part.Species = codes "species"
 name_of part.Voice = codes "voice"
@@ -83,6 +87,7 @@ kind_of part.With = kind.Needed
 kind_of part.MayWith = kind.Option
 kind_of part.Against = kind.Option
 kind_of part.Wrap = kind.Option
+kind_of part.Penalty = kind.Flag
 kind_of part.Mode = kind.Needed
 kind_of part.Species = kind.Needed
 kind_of part.Voice = kind.Needed

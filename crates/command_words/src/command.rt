@@ -37,6 +37,11 @@ pub enum Job {
     ToXml,
     /// The MusicXML document of its setting with the marks in red.
     MarkXml,
+    /// The picture of its setting, with its penalty below where that is wanted; or without one of the
+    /// sheet to fill in.
+    Picture { penalty: bool },
+    /// The picture of its setting with the marks in red.
+    MarkPicture,
 }
 
 /// What is to be made of an exercise whose free voices have a species each.
@@ -50,6 +55,8 @@ pub enum MixedJob {
     Weigh,
     /// The MusicXML document of its setting with the marks in red.
     MarkXml,
+    /// The picture of its setting with the marks in red.
+    Picture,
 }
 
 /// The species that is named for each of the four voices.

@@ -5,7 +5,7 @@ ghost use Rattle.clap.specs.Words.{first_of, found_of, rows_of};
 ghost use Rattle.fux_text.specs.Names.{mode_named};
 ghost use Rattle.smf_score.specs.Heads.{IsHead};
 ghost use Rattle.text_lines.specs.Numbers.{number_within};
-ghost use Rattle.command_words.specs.Commands.{AreNamed, HasHead, IsWanted, against_in, asks, best_asked, budget_in, canon_asked, certify_asked, certify_cantus_asked, check_asked, check_cantus_asked, class_asked, compose_asked, drill_asked, form_in, from_smf_asked, head_in, is_item, is_set, job_asked, mark_mixed_asked, mark_xml_asked, mark_xml_with, mixed_asked, named_in, new_cantus_asked, number_at, print_asked, said_of, task_of, wanted_in, weigh_asked, weighing_with, wrap_in};
+ghost use Rattle.command_words.specs.Commands.{AreNamed, HasHead, IsWanted, against_in, asks, best_asked, budget_in, canon_asked, certify_asked, certify_cantus_asked, check_asked, check_cantus_asked, class_asked, compose_asked, drill_asked, form_in, from_smf_asked, head_in, is_item, is_set, job_asked, mark_mixed_asked, mark_picture_asked, mark_xml_asked, mark_xml_with, marked_picture_with, mixed_asked, named_in, new_cantus_asked, number_at, picture_asked, print_asked, said_of, task_of, wanted_in, weigh_asked, weighing_with, wrap_in};
 
 use crate::command::{Command, Job, Making, MixedJob, Named, Wanted};
 use crate::verbs::Verb;
@@ -431,6 +431,48 @@ fn weigh_asked<'a>(matches: &ArgMatches<'a>) -> Option<Command<'a>>
     weighing_with(name, sheet, with, against)
 }
 
+/// `picture`, of the exercise of a file.
+fn picture_asked<'a>(matches: &ArgMatches<'a>) -> Option<Command<'a>>
+    ensures asked { option_map task_of result ≡ picture_asked (rows_of (found_of matches.now)) }
+    ensures head { IfSome result HasHead }
+{
+    let name = value(matches, "EX")?;
+    let sheet = value(matches, "sheet");
+    let penalty = is_set(matches, "penalty");
+    let job = Job::Picture { penalty };
+    Some(Command::Make(Making::OnExercise { name, sheet, job }))
+}
+
+/// A picture with marks, by the rules of the exercise or with the species that a list names.
+fn marked_picture_with<'a>(name: &'a str, with: Option<&'a str>) -> Option<Command<'a>>
+    ensures asked { option_map task_of result ≡ marked_picture_with name.entry.now
+        (option_map (λ text. text.now) with.entry) }
+    ensures head { IfSome result HasHead }
+{
+    let sheet = None;
+    let Some(list) = with else {
+        let job = Job::MarkPicture;
+        return Some(Command::Make(Making::OnExercise { name, sheet, job }));
+    };
+    let named = named_in(list)?;
+    let job = MixedJob::Picture;
+    Some(Command::Make(Making::OnMixed {
+        name,
+        sheet,
+        named,
+        job,
+    }))
+}
+
+/// `markpicture`, of the exercise of a file.
+fn mark_picture_asked<'a>(matches: &ArgMatches<'a>) -> Option<Command<'a>>
+    ensures asked { option_map task_of result ≡ mark_picture_asked (rows_of (found_of matches.now)) }
+    ensures head { IfSome result HasHead }
+{
+    let name = value(matches, "EX")?;
+    marked_picture_with(name, value(matches, "with"))
+}
+
 /// What is asked of a new cantus.
 fn wanted_of(matches: &ArgMatches<'_>) -> Option<Wanted>
     ensures value { result ≡ wanted_in (rows_of (found_of matches.now)) }
@@ -520,6 +562,8 @@ pub fn asked_of<'a>(verb: Verb, matches: &ArgMatches<'a>) -> Option<Command<'a>>
         Verb::Weigh => weigh_asked(matches),
         Verb::ToXml => job_asked(matches, Job::ToXml),
         Verb::MarkXml => mark_xml_asked(matches),
+        Verb::Picture => picture_asked(matches),
+        Verb::MarkPicture => mark_picture_asked(matches),
         Verb::NewCantus => new_cantus_asked(matches),
         Verb::CertCantus => certify_cantus_asked(matches),
         Verb::CheckCantus => check_cantus_asked(matches),

@@ -41,6 +41,10 @@ pub enum Verb {
     ToXml,
     /// The MusicXML document of a setting with the marks in red.
     MarkXml,
+    /// The picture of an exercise.
+    Picture,
+    /// The picture of a setting with the marks in red.
+    MarkPicture,
     /// The best new cantus.
     NewCantus,
     /// The certificate of the best new cantus.
@@ -50,7 +54,7 @@ pub enum Verb {
 }
 
 /// All commands.
-const VERBS: [Verb; 20] = [
+const VERBS: [Verb; 22] = [
     Verb::Compose,
     Verb::Best,
     Verb::Certify,
@@ -68,6 +72,8 @@ const VERBS: [Verb; 20] = [
     Verb::Weigh,
     Verb::ToXml,
     Verb::MarkXml,
+    Verb::Picture,
+    Verb::MarkPicture,
     Verb::NewCantus,
     Verb::CertCantus,
     Verb::CheckCantus,
@@ -108,6 +114,8 @@ pub enum Part {
     Against,
     /// How many columns of a terminal a printed score has at most.
     Wrap,
+    /// The penalty is to stand below the setting.
+    Penalty,
     /// The mode of a MIDI file.
     Mode,
     /// The species of a MIDI file.
@@ -184,6 +192,8 @@ impl Verb {
             ),
             Verb::ToXml => ("toxml", &[Part::Exercise]),
             Verb::MarkXml => ("markxml", &[Part::Exercise, Part::MayWith]),
+            Verb::Picture => ("picture", &[Part::Exercise, Part::Sheet, Part::Penalty]),
+            Verb::MarkPicture => ("markpicture", &[Part::Exercise, Part::MayWith]),
             Verb::NewCantus => (
                 "newcantus",
                 &[
@@ -242,6 +252,7 @@ impl Part {
             Part::With | Part::MayWith => "with",
             Part::Against => "against",
             Part::Wrap => "wrap",
+            Part::Penalty => "penalty",
             Part::Mode => "mode",
             Part::Species => "species",
             Part::Voice => "voice",
@@ -268,7 +279,7 @@ impl Part {
             Part::Sheet | Part::Budget | Part::Form | Part::MayWith | Part::Against | Part::Wrap =>
                 Kind::Option,
             Part::With | Part::Mode | Part::Species | Part::Voice | Part::Cantus => Kind::Needed,
-            Part::TopFirst | Part::BySharper => Kind::Flag,
+            Part::Penalty | Part::TopFirst | Part::BySharper => Kind::Flag,
         }
     }
 }

@@ -10,7 +10,6 @@ use Rattle.written_notes.specs.declared.beams.Beam.TheVariants.{Without, Begins,
 use Rattle.written_notes.specs.Beams.{beam_of}
 use Rattle.sheet_layout.specs.Spacing.{slot_x}
 use Rattle.note_shapes.specs.declared.heads.Head.{Head}
-use Rattle.note_shapes.specs.declared.heads.NotePlace.{NotePlace}
 
 -- the height of a degree: four to a step, and the middle line at 600
 abbrev pub height : ℕ → ℕ → ℕ
@@ -50,21 +49,22 @@ tip up y other = if up then min (min y (other + 6) - 28) 600 else max (max y (ot
 abbrev pub stem_x : Bool → ℕ → ℕ
 stem_x up x = if up then x + 5 else x - 5
 
--- the head of a note with this degree, where the other head under its beam has that one
-abbrev pub head_with : NotePlace → Written → ℕ → ℕ → Head
-head_with place note degree other = record {
-  x = slot_x place.all.now note.slot;
-  y = height place.middle degree;
-  next = slot_x place.all.now (note.slot + 1);
-  far = height place.middle other;
-  up = goes_up place.middle degree other;
-  beam = beam_of place.notes.now note;
+-- the head of one of a bar's notes with this degree, among those of all voices, where the other
+-- head under its beam has that one
+abbrev pub head_with : List Written → List Written → ℕ → Written → ℕ → ℕ → Head
+head_with all notes middle note degree other = record {
+  x = slot_x all note.slot;
+  y = height middle degree;
+  next = slot_x all (min note.slot 7 + 1);
+  far = height middle other;
+  up = goes_up middle degree other;
+  beam = beam_of notes note;
 }
 
--- the head of a note with a pitch
-abbrev pub head_of : NotePlace → Written → Pitch → Head
-head_of place note p =
-    head_with place note (degree_of p) (other_degree place.notes.now note (degree_of p))
+-- the head of one of a bar's notes with a pitch
+abbrev pub head_of : List Written → List Written → ℕ → Written → Pitch → Head
+head_of all notes middle note p =
+    head_with all notes middle note (degree_of p) (other_degree notes note (degree_of p))
 
 -- who reads a head's height knows its degree: 4 to a step down from the middle line's
 abbrev pub HeightsTellDegrees : Type 0

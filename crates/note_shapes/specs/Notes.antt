@@ -110,31 +110,33 @@ dot_height middle degree y = if degree % 2 == middle % 2 then y - 4 else y
 
 -- where the tie behind a note ends: before the next note of the bar, or where ties to the next
 -- bar do
-abbrev pub tie_to : NotePlace → Written → ℕ
-tie_to place note =
-    if nat_lt (note.slot + note.slots) 8 then slot_x place.all.now (note.slot + note.slots) - 6
+abbrev pub tie_to : List Written → NotePlace → Written → ℕ
+tie_to all place note =
+    if nat_lt (note.slot + note.slots) 8 then slot_x all (note.slot + note.slots) - 6
     else place.tie_end
 
 -- the tie behind a note, and at a system's begin the end of the one before it
-abbrev pub ties : NotePlace → Written → Head → List Shape
-ties place note head =
-    when note.tie_out (Tie head.up (point (head.x + 6) head.y) (tie_to place note))
+abbrev pub ties : List Written → NotePlace → Written → Head → List Shape
+ties all place note head =
+    when note.tie_out (Tie head.up (point (head.x + 6) head.y) (tie_to all place note))
     ++ when (note.tie_in && (note.slot == 0) && place.first)
     (Tie head.up (point (head.x - 18) head.y) (head.x - 6))
 
 -- ---- notes and rests
 
 -- what is drawn of a head, where its note has this degree
-abbrev pub head_shapes : NotePlace → Written → ℕ → Head → List Shape
-head_shapes place note degree head =
+abbrev pub head_shapes : List Written → NotePlace → Written → ℕ → Head → List Shape
+head_shapes all place note degree head =
     ledgers head.x place.middle degree
     ++ At (head_symbol note.value.base) (point head.x head.y) ∷ []
     ++ stems note.value.base head ++ signs note.sign head.x head.y
-    ++ dots note.value.dots head.x (dot_height place.middle degree head.y) ++ ties place note head
+    ++ dots note.value.dots head.x (dot_height place.middle degree head.y)
+    ++ ties all place note head
 
--- what is drawn of a note with a pitch
-abbrev pub note_shapes : NotePlace → Written → Pitch → List Shape
-note_shapes place note p = head_shapes place note (degree_of p) (head_of place note p)
+-- what is drawn of one of a bar's notes with a pitch, among the notes of all voices
+abbrev pub note_shapes : List Written → List Written → NotePlace → Written → Pitch → List Shape
+note_shapes all notes place note p =
+    head_shapes all place note (degree_of p) (head_of all notes place.middle note p)
 
 -- the symbol of a rest
 abbrev pub rest_symbol : Base → Symbol
@@ -144,11 +146,11 @@ rest_symbol Quarter = QuarterRest
 rest_symbol Eighth = EighthRest
 
 -- where a rest stands: at its slot, and in the bar's middle where it fills the bar
-abbrev pub rest_x : NotePlace → Written → ℕ
-rest_x place note = if note.slots == 8 then place.width / 2 else slot_x place.all.now note.slot
+abbrev pub rest_x : List Written → NotePlace → Written → ℕ
+rest_x all place note = if note.slots == 8 then place.width / 2 else slot_x all note.slot
 
--- what is drawn of a rest, at the middle line
-abbrev pub rest_shapes : NotePlace → Written → List Shape
-rest_shapes place note =
-    At (rest_symbol note.value.base) (point (rest_x place note) 600) ∷ []
-    ++ dots note.value.dots (rest_x place note) 596
+-- what is drawn of a rest, at the middle line, among the notes of all voices
+abbrev pub rest_shapes : List Written → NotePlace → Written → List Shape
+rest_shapes all place note =
+    At (rest_symbol note.value.base) (point (rest_x all place note) 600) ∷ []
+    ++ dots note.value.dots (rest_x all place note) 596

@@ -8,13 +8,10 @@ use fux_pitch::Pitch;
 use sheet_layout::slot_x;
 use written_notes::{Beam, Written, beam_of};
 
-/// What the notes of a bar of a voice have in common: the notes of all voices in the bar, the
-/// voice's own, the degree of its staff's middle line, the bar's width, where ties to the next bar
-/// end, and whether the bar begins a system.
-#[derive(Clone, Copy)]
-pub struct NotePlace<'a> {
-    pub all: &'a [Written],
-    pub notes: &'a [Written],
+/// What the notes of a bar of a voice have in common: the degree of its staff's middle line, the
+/// bar's width, where ties to the next bar end, and whether the bar begins a system.
+#[derive(Clone, Copy, Debug, PartialEq, Eq)]
+pub struct NotePlace {
     pub middle: u8,
     pub width: u16,
     pub tie_end: u32,
@@ -104,27 +101,33 @@ pub fn stem_x(up: bool, x: u16) -> u32
     if up { x + 5 } else { x.saturating_sub(5) }
 }
 
-/// The head of a note with this degree, where the other head under its beam has that one.
-fn head_with(place: &NotePlace, note: &Written, degree: u8, other: u8) -> Head
-    requires { note.now.slot ≤ 8 }
-    ensures { result ≡ head_with place.now note.now degree other }
+/// The head of one of these notes with this degree, where the other head under its beam has that
+/// one, among the notes of all voices.
+fn head_with(
+    all: &[Written],
+    notes: &[Written],
+    middle: u8,
+    note: &Written,
+    degree: u8,
+    other: u8,
+) -> Head
+    ensures { result ≡ head_with all.now notes.now middle note.now degree other }
 {
     Head {
-        x: slot_x(place.all, note.slot),
-        y: height(place.middle, degree),
-        next: slot_x(place.all, note.slot + 1),
-        far: height(place.middle, other),
-        up: goes_up(place.middle, degree, other),
-        beam: beam_of(place.notes, note),
+        x: slot_x(all, note.slot),
+        y: height(middle, degree),
+        next: slot_x(all, note.slot.min(7) + 1),
+        far: height(middle, other),
+        up: goes_up(middle, degree, other),
+        beam: beam_of(notes, note),
     }
 }
 
-/// The head of a note with a pitch.
-pub fn head_of(place: &NotePlace, note: &Written, pitch: Pitch) -> Head
-    requires { note.now.slot ≤ 8 }
-    ensures { result ≡ head_for place.now note.now pitch }
+/// The head of one of these notes with a pitch, among the notes of all voices.
+pub fn head_of(all: &[Written], notes: &[Written], middle: u8, note: &Written, pitch: Pitch) -> Head
+    ensures { result ≡ head_for all.now notes.now middle note.now pitch }
 {
     let degree = pitch.degree();
-    let other = other_degree(place.notes, note, degree);
-    head_with(place, note, degree, other)
+    let other = other_degree(notes, note, degree);
+    head_with(all, notes, middle, note, degree, other)
 }

@@ -183,12 +183,12 @@ fn dot_height(middle: u8, degree: u8, y: u16) -> u16
 }
 
 /// Where the tie behind a note ends.
-fn tie_to(place: &NotePlace, note: &Written) -> u32
-    ensures { result ≡ tie_end_of place.now note.now }
+fn tie_to(all: &[Written], place: &NotePlace, note: &Written) -> u32
+    ensures { result ≡ tie_end_of all.now place.now note.now }
 {
     let end = u16::from(note.slot) + u16::from(note.slots);
     if end < 8 {
-        u32::from(slot_x(place.all, end as u8)) - 6
+        u32::from(slot_x(all, end as u8)) - 6
     } else {
         place.tie_end
     }
@@ -197,12 +197,13 @@ fn tie_to(place: &NotePlace, note: &Written) -> u32
 /// Appends a note's ties.
 fn put_ties(
     shapes: &mut Vec<Shape>,
+    all: &[Written],
     place: &NotePlace,
     note: &Written,
     head: &Head,
 ) -> Result<(), Memory>
     ensures { OnOk result (shapes.new.items ≡ shapes.old.items
-        ++ ties place.now note.now head.now) }
+        ++ ties all.now place.now note.now head.now) }
 {
     let x = u32::from(head.x);
     let y = u32::from(head.y);
@@ -216,7 +217,7 @@ fn put_ties(
     put_when(
         shapes,
         note.tie_out,
-        Shape::Tie(head.up, behind, tie_to(place, note)),
+        Shape::Tie(head.up, behind, tie_to(all, place, note)),
     )?;
     put_when(shapes, goes_on, Shape::Tie(head.up, before, end))
 }
@@ -224,13 +225,14 @@ fn put_ties(
 /// Appends what is drawn of a head, where its note has this degree.
 fn put_head(
     shapes: &mut Vec<Shape>,
+    all: &[Written],
     place: &NotePlace,
     note: &Written,
     degree: u8,
     head: &Head,
 ) -> Result<(), Memory>
     ensures { OnOk result (shapes.new.items ≡ shapes.old.items
-        ++ head_shapes place.now note.now degree head.now) }
+        ++ head_shapes all.now place.now note.now degree head.now) }
 {
     let symbol = head_symbol(note.value.base);
     let dot = dot_height(place.middle, degree, head.y);
@@ -239,23 +241,24 @@ fn put_head(
     put_stems(shapes, note.value.base, head)?;
     put_signs(shapes, note.sign, head.x, head.y)?;
     put_dots(shapes, note.value.dots, head.x, dot)?;
-    put_ties(shapes, place, note, head)?;
+    put_ties(shapes, all, place, note, head)?;
     Ok(())
 }
 
-/// Appends what is drawn of a note with a pitch.
+/// Appends what is drawn of one of a bar's notes with a pitch, among the notes of all voices.
 pub fn put_note(
     shapes: &mut Vec<Shape>,
+    all: &[Written],
+    notes: &[Written],
     place: &NotePlace,
     note: &Written,
     pitch: Pitch,
 ) -> Result<(), Memory>
-    requires { note.now.slot ≤ 8 }
     ensures { OnOk result (shapes.new.items ≡ shapes.old.items
-        ++ note_shapes place.now note.now pitch) }
+        ++ note_shapes all.now notes.now place.now note.now pitch) }
 {
-    let head = head_of(place, note, pitch);
-    put_head(shapes, place, note, pitch.degree(), &head)
+    let head = head_of(all, notes, place.middle, note, pitch);
+    put_head(shapes, all, place, note, pitch.degree(), &head)
 }
 
 /// The symbol of a rest.
@@ -271,21 +274,27 @@ fn rest_symbol(base: Base) -> Symbol
 }
 
 /// Where a rest stands: at its slot, and in the bar's middle where it fills the bar.
-fn rest_x(place: &NotePlace, note: &Written) -> u16
-    ensures { result ≡ x_of_rest place.now note.now }
+fn rest_x(all: &[Written], place: &NotePlace, note: &Written) -> u16
+    ensures { result ≡ x_of_rest all.now place.now note.now }
 {
     if note.slots == 8 {
         place.width / 2
     } else {
-        slot_x(place.all, note.slot)
+        slot_x(all, note.slot)
     }
 }
 
-/// Appends what is drawn of a rest, at the middle line.
-pub fn put_rest(shapes: &mut Vec<Shape>, place: &NotePlace, note: &Written) -> Result<(), Memory>
-    ensures { OnOk result (shapes.new.items ≡ shapes.old.items ++ rest_shapes place.now note.now) }
+/// Appends what is drawn of a rest, at the middle line, among the notes of all voices.
+pub fn put_rest(
+    shapes: &mut Vec<Shape>,
+    all: &[Written],
+    place: &NotePlace,
+    note: &Written,
+) -> Result<(), Memory>
+    ensures { OnOk result (shapes.new.items ≡ shapes.old.items
+        ++ rest_shapes all.now place.now note.now) }
 {
-    let x = rest_x(place, note);
+    let x = rest_x(all, place, note);
     let symbol = rest_symbol(note.value.base);
     put_symbol(shapes, symbol, x, 600)?;
     put_dots(shapes, note.value.dots, x, 596)?;

@@ -28,11 +28,14 @@ abbrev pub mark_count : Option (Bor (List SheetMark)) → List ℕ
 mark_count None = []
 mark_count (Some marks) = codes ": marks " ++ decimal (length marks.now)
 
+-- the words of a title: the mode, the species, and the number of marks
+unfoldable pub title_words : Exercise → Option (Bor (List SheetMark)) → List ℕ
+title_words ex marks = mode_title ex.mode ++ species_words ex ++ mark_count marks
+
 -- the title's row
 unfoldable pub title : Exercise → Option (Bor (List SheetMark)) → List ℕ
 title ex marks =
-    codes "<work><work-title>" ++ mode_title ex.mode ++ species_words ex ++ mark_count marks
-    ++ codes "</work-title></work>\n"
+    codes "<work><work-title>" ++ title_words ex marks ++ codes "</work-title></work>\n"
 
 -- what the part of the cantus is called, and its short name
 unfoldable pub cantus_called : ℕ → List ℕ

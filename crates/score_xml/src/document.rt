@@ -49,7 +49,7 @@ fn put_parts(
 }
 
 /// The marks of a sheet, none where it isn't marked.
-fn marks_of(marks: Option<&[SheetMark]>) -> &[SheetMark]
+pub fn marks_of(marks: Option<&[SheetMark]>) -> &[SheetMark]
     ensures { result.now ≡ marks_of marks.entry }
 {
     match marks {

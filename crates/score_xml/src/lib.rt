@@ -6,4 +6,5 @@ mod measures;
 mod note_rows;
 mod titles;
 
-pub use document::score_xml;
+pub use document::{marks_of, score_xml};
+pub use titles::put_title_words;

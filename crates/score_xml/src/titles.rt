@@ -1,7 +1,7 @@
 //! The title of a document, and the names of its parts.
 
 ghost use Rattle.std.specs.Prelude.{◌≡◌, ◌++◌, OnOk, string_bytes};
-ghost use Rattle.score_xml.specs.Titles.{called, cantus_called, free_called, mark_count, mode_title, part_name, part_names, part_list, species_words, title};
+ghost use Rattle.score_xml.specs.Titles.{called, cantus_called, free_called, mark_count, mode_title, part_name, part_names, part_list, species_words, title, title_words};
 
 use fux_grid::{Exercise, is_mixed};
 use fux_pitch::{Memory, Mode};
@@ -46,6 +46,23 @@ fn put_mark_count(out: &mut String, marks: Option<&[SheetMark]>) -> Result<(), M
     Ok(())
 }
 
+/// Appends the words of a title: the mode, the species, and how many marks there are, where a sheet
+/// is marked.
+#[tactic(auto, unfolding(crate::specs::Titles::title_words))]
+pub fn put_title_words(
+    out: &mut String,
+    ex: &Exercise,
+    marks: Option<&[SheetMark]>,
+) -> Result<(), Memory>
+    ensures { OnOk result (string_bytes out.new ≡ string_bytes out.old
+        ++ title_words ex.now marks.entry) }
+{
+    out.push_str(mode_title(ex.mode))?;
+    put_species(out, ex)?;
+    put_mark_count(out, marks)?;
+    Ok(())
+}
+
 /// Appends the title's row.
 #[tactic(auto, unfolding(crate::specs::Titles::title))]
 pub fn put_title(out: &mut String, ex: &Exercise, marks: Option<&[SheetMark]>) -> Result<(), Memory>
@@ -53,9 +70,7 @@ pub fn put_title(out: &mut String, ex: &Exercise, marks: Option<&[SheetMark]>) -
         ++ title ex.now marks.entry) }
 {
     out.push_str("<work><work-title>")?;
-    out.push_str(mode_title(ex.mode))?;
-    put_species(out, ex)?;
-    put_mark_count(out, marks)?;
+    put_title_words(out, ex, marks)?;
     out.push_str("</work-title></work>\n")?;
     Ok(())
 }

@@ -31,12 +31,13 @@ bar_room ex lines bar = record {
   first = slot_x (all_notes lines bar) 0;
 }
 
--- a bar stands behind another one where it fits the page; else it begins the next system
+-- a bar stands behind another one where it fits the page; else it begins the next system, 20 below
+-- the end of the one before
 abbrev pub next_place : ℕ → BarPlace → BarRoom → BarPlace
 next_place tall before room =
     if nat_le (before.left + before.room.width + room.width) 1030
     then record { top = before.top; left = before.left + before.room.width; room = room }
-    else record { top = before.top + tall; left = 128; room = room }
+    else record { top = before.top + tall + 20; left = 128; room = room }
 
 -- before all bars
 abbrev pub page_begin : BarPlace

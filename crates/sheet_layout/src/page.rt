@@ -49,14 +49,14 @@ fn bar_room(alloc: Global, ex: &Exercise, lines: &[List<Cell>], bar: u8) -> Resu
 }
 
 /// The place of a bar behind another one, where it fits the page, else in the next system; a system
-/// is so tall.
+/// is so tall, and 20 lie between two.
 fn next_place(tall: u32, before: BarPlace, room: BarRoom) -> BarPlace
     requires reach { before.left + before.room.width ≤ 1030 }
     requires top { before.top ≤ 2 ^ 48 }
     requires width { room.width ≤ 282 }
     ensures value { result ≡ next_place tall before room }
     ensures reach { result.left + result.room.width ≤ 1030 }
-    ensures top { result.top ≤ before.top + tall }
+    ensures top { result.top ≤ before.top + tall + 20 }
 {
     let left = before.left + u32::from(before.room.width);
     if left + u32::from(room.width) <= RIGHT {
@@ -67,7 +67,7 @@ fn next_place(tall: u32, before: BarPlace, room: BarRoom) -> BarPlace
         }
     } else {
         BarPlace {
-            top: before.top + u64::from(tall),
+            top: before.top + u64::from(tall) + 20,
             left: LEFT,
             room,
         }

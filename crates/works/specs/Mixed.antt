@@ -10,7 +10,7 @@ use Rattle.species_space.specs.Naming.{AreFreelyNamed, IsFirstMisnamed, all_spec
 use Rattle.penalty_sheet.specs.declared.sheet.Sheet.{Sheet}
 use Rattle.score_marker.specs.Marks.{AreMarks}
 use Rattle.command_words.specs.declared.command.MixedJob.{MixedJob}
-use Rattle.command_words.specs.declared.command.MixedJob.TheVariants.{Compose, Mark, Weigh, MarkXml}
+use Rattle.command_words.specs.declared.command.MixedJob.TheVariants.{Compose, Mark, Weigh, MarkXml, Picture}
 use Rattle.works.specs.declared.refusal.Refusal.{Refusal}
 use Rattle.works.specs.declared.refusal.Refusal.TheVariants.{With}
 use Rattle.works.specs.declared.work.Stop.{Stop}
@@ -20,6 +20,7 @@ use Rattle.works.specs.Charged.{WeighsMixed}
 use Rattle.works.specs.Composed.{IsComposition, TellsAs, TellsBest, TellsNone}
 use Rattle.works.specs.Marked.{RefusesNoSetting, TellsLines}
 use Rattle.works.specs.Rendered.{MarksXml}
+use Rattle.works.specs.Rendered.{MarksPicture}
 use Rattle.works.specs.Searched.{RefusesWidth}
 use Rattle.works.specs.Sheets.{OnSheet}
 use Rattle.works.specs.Texts.{OnText, Work}
@@ -55,6 +56,7 @@ MakesOfMixed (Compose budget) sheet ex mixed = ComposesMixed budget sheet ex mix
 MakesOfMixed Mark sheet ex mixed = MarksMixed ex mixed
 MakesOfMixed Weigh sheet ex mixed = WeighsMixed sheet ex mixed
 MakesOfMixed MarkXml sheet ex mixed = MarksXml ex mixed
+MakesOfMixed Picture sheet ex mixed = MarksPicture ex mixed
 
 -- a refusal of an exercise of which a voice is named that may not be: it tells the lowest one
 abbrev pub RefusesNaming : Exercise → List (Option ℕ) → Refusal → Type 0

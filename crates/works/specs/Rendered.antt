@@ -1,10 +1,14 @@
--- What `print`, `tosmf`, `toxml` and `markxml` write: an exercise with its setting in another form.
-use Rattle.std.specs.Prelude.{◌≡◌, ℕ, List, Option, None, Some, Ok, Err, length, map, nat_lt}
+-- What `print`, `tosmf`, `toxml`, `markxml`, `picture` and `markpicture` write: an exercise with itsan
+-- setting in another form.
+use Rattle.std.specs.Prelude.{◌≡◌, ℕ, Bool, List, Option, None, Some, Ok, Err, length, map, nat_lt, option_map, if◌then◌else◌}
 use Rattle.std.specs.Borrow.{Bor}
 use Rattle.fux_grid.specs.declared.exercise.Exercise.{Exercise}
 use Rattle.fux_grid.specs.Grid.{Grid}
+use Rattle.fux_judge.specs.Penalties.{penalty_of}
+use Rattle.penalty_sheet.specs.declared.sheet.Sheet.{Sheet}
 use Rattle.score_marker.specs.declared.mark.Mark.{Mark}
 use Rattle.score_marker.specs.Marks.{AreMarks}
+use Rattle.score_picture.specs.Pictures.{picture_of}
 use Rattle.score_print.specs.Printed.{printed_sheet}
 use Rattle.score_print.specs.Systems.{IsWrapped}
 use Rattle.score_xml.specs.Documents.{document}
@@ -71,3 +75,31 @@ pub record IsMarkedDocument (ex rules : Exercise) (output : Output) : Type 0 whe
 abbrev pub MarksXml : Exercise → Exercise → Work → Type 0
 MarksXml ex rules (Ok output) = IsMarkedDocument ex rules output
 MarksXml ex rules (Err refusal) = RefusesNoSetting ex refusal
+
+-- the penalty that a picture shows: that of the setting, over the sheet in use, where it is wanted
+abbrev pub shown_penalty : Bool → Sheet → Exercise → Option ℕ
+shown_penalty wanted sheet ex =
+    if wanted then option_map (λ score. penalty_of ex sheet score.columns) ex.setting else None
+
+-- `picture` makes this of an exercise, with or without a setting
+abbrev pub Pictures : Bool → Sheet → Exercise → Work → Type 0
+Pictures wanted sheet ex (Ok output) =
+    (output.bytes ≡ picture_of ex None (shown_penalty wanted sheet ex)) × (output.verdict ≡ Favorable)
+Pictures wanted sheet ex (Err refusal) = ⊥
+
+-- an output is the picture of the setting of an exercise with exactly its marks in red, by the rules
+-- of an exercise
+pub record IsMarkedPicture (ex rules : Exercise) (output : Output) : Type 0 where
+  pub score : Grid
+  pub given : ex.setting ≡ Some score
+  pub marks : List Mark
+  pub exact : AreMarks rules score.columns marks
+  pub shown : Bor (List SheetMark)
+  pub are_shown : shown.now ≡ map shown_mark marks
+  pub bytes : output.bytes ≡ picture_of ex (Some shown) None
+  pub verdict : output.verdict ≡ marks_verdict (nat_lt 0 (length marks))
+
+-- `markpicture` makes this of an exercise, by its own rules or those of a mixed one
+abbrev pub MarksPicture : Exercise → Exercise → Work → Type 0
+MarksPicture ex rules (Ok output) = IsMarkedPicture ex rules output
+MarksPicture ex rules (Err refusal) = RefusesNoSetting ex refusal

@@ -14,7 +14,7 @@ use Rattle.works.specs.declared.work.Verdict.TheVariants.{Spent}
 use Rattle.works.specs.declared.work.Stop.{Stop}
 use Rattle.works.specs.declared.work.Stop.TheVariants.{Refused, Memory}
 use Rattle.command_words.specs.declared.command.Job.{Job}
-use Rattle.command_words.specs.declared.command.Job.TheVariants.{Compose, Best, Mark, Weigh, Cantus, Print, ToSmf, ToXml, MarkXml}
+use Rattle.command_words.specs.declared.command.Job.TheVariants.{Compose, Best, Mark, Weigh, Cantus, Print, ToSmf, ToXml, MarkXml, Picture, MarkPicture}
 use Rattle.penalty_sheet.specs.declared.sheet.Sheet.{Sheet}
 use Rattle.works.specs.CantusCertified.{MakesCantusCertificate}
 use Rattle.works.specs.CantusChecked.{ChecksCantusBy}
@@ -32,7 +32,7 @@ use Rattle.works.specs.Invented.{MakesCantus}
 use Rattle.works.specs.Marked.{Marks, CantusMarks}
 use Rattle.works.specs.Mixed.{MakesMixed}
 use Rattle.works.specs.Played.{ReadsMidi}
-use Rattle.works.specs.Rendered.{MarksXml, Prints, WritesSmf, WritesXml}
+use Rattle.works.specs.Rendered.{MarksPicture, MarksXml, Pictures, Prints, WritesSmf, WritesXml}
 use Rattle.works.specs.Searched.{IsNarrow}
 use Rattle.works.specs.Sheets.{OnSheet, sheet_said}
 use Rattle.works.specs.Texts.{Work, OnText}
@@ -48,6 +48,8 @@ MakesOf (Print wrap) sheet ex = Prints wrap ex
 MakesOf ToSmf sheet ex = WritesSmf ex
 MakesOf ToXml sheet ex = WritesXml ex
 MakesOf MarkXml sheet ex = MarksXml ex ex
+MakesOf (Picture wanted) sheet ex = Pictures wanted sheet ex
+MakesOf MarkPicture sheet ex = MarksPicture ex ex
 
 -- a job makes this of the text of an exercise, and of the file of a sheet where one is given
 abbrev pub MakesOfText : Job → List (List ℕ) → List ℕ → Work → Type 0

@@ -42,7 +42,7 @@ fn verdict_of(charges: &[Charge]) -> Verdict
 }
 
 /// The penalty of a complete score.
-fn penalty_of(rules: &Exercise, sheet: &Sheet, score: &Score) -> u64
+pub fn penalty_of(rules: &Exercise, sheet: &Sheet, score: &Score) -> u64
     requires valid { IsValid rules.now }
     requires complete { IsComplete rules.now score.now }
     ensures { result ≡ penalties.penalty_of rules.now sheet.now score.now.columns }

@@ -26,7 +26,7 @@ use crate::marking::{cantus, mark};
 use crate::mixing::on_mixed;
 use crate::playing::{LONGEST_MIDI, from_smf};
 use crate::refusal::{Refusal, refusal_text};
-use crate::rendering::{mark_xml, print, to_smf, to_xml};
+use crate::rendering::{mark_picture, mark_xml, print, to_picture, to_smf, to_xml};
 use crate::weighing::sheet_of;
 use crate::work::{Halt, Output, Stop, Unmade, Verdict};
 use class_marker::Text;
@@ -180,6 +180,8 @@ fn of_exercise<R: Threads + Sync>(
         Job::ToSmf => to_smf(alloc, exercise),
         Job::ToXml => to_xml(alloc, exercise),
         Job::MarkXml => mark_xml(alloc, exercise),
+        Job::Picture { penalty } => to_picture(alloc, exercise, sheet, penalty),
+        Job::MarkPicture => mark_picture(alloc, exercise),
     }
 }
 

@@ -1,4 +1,4 @@
-//! The commands `mixed` and `markmixed`, and `markxml` with species that are named.
+//! The commands `mixed` and `markmixed`, and `markxmlweigh` and `markpicture` with species that are namedthe species of voices.
 
 ghost use Rattle.std.specs.Prelude.{◌≡◌, ◌++◌, IfErr, IfOk, string_bytes, true};
 ghost use Rattle.fux_grid.specs.Exercises.{HasCantus, IsComplete, IsValid};
@@ -14,6 +14,7 @@ ghost use Rattle.works.specs.Composed.{penalty_line};
 ghost use Rattle.works.specs.Mixed.{ComposesMixed, MakesMixed, MakesOfMixed, MarksMixed, NamesSpecies, TellsMixed};
 ghost use Rattle.works.specs.Endings.{IsMade};
 ghost use Rattle.works.specs.Rendered.{MarksXml};
+ghost use Rattle.works.specs.Rendered.{MarksPicture};
 ghost use Rattle.works.specs.Searched.{IsSpaceOf, StopsAtWidth};
 ghost use Rattle.works.specs.Works.{Answers, OnTexts};
 
@@ -26,6 +27,7 @@ use crate::making::{read_weights, said};
 use crate::marking::output_of;
 use crate::refusal::Refusal;
 use crate::rendering::marked_document;
+use crate::rendering::{shown_marks, verdict_of};
 use crate::weighing::sheet_of;
 use crate::work::{Output, Stop, Verdict};
 use class_marker::{Text, lines_of};
@@ -35,6 +37,7 @@ use fux_pitch::Memory;
 use fux_port::Shelf;
 use penalty_sheet::Sheet;
 use score_marker::{Mark, marks};
+use score_picture::picture;
 use species_space::{Mixed, MixedSpace, TableFault, named_species, score_of};
 use std::alloc::Global;
 use tree_search::{Outcome, search_quest};
@@ -105,6 +108,7 @@ fn of_mixed(alloc: Global, m: &Mixed<'_>, sheet: &Sheet, job: MixedJob) -> Resul
         MixedJob::Mark => mark_mixed(alloc, m),
         MixedJob::Weigh => weigh_mixed(alloc, m, sheet),
         MixedJob::MarkXml => mark_xml_mixed(alloc, m),
+        MixedJob::Picture => picture_mixed(alloc, m),
     }
 }
 
@@ -207,4 +211,18 @@ fn mark_xml_mixed(alloc: Global, m: &Mixed<'_>) -> Result<Output, Stop>
     };
     let marks = mixed_marks(alloc, m, score)?;
     Ok(marked_document(alloc, m.ex, marks.as_slice())?)
+}
+
+/// The picture of the setting of a mixed exercise, with the notes of its marks in red.
+fn picture_mixed(alloc: Global, m: &Mixed<'_>) -> Result<Output, Stop>
+    requires { IsMixed m.now }
+    ensures { Answers (MarksPicture m.now.ex.now (exercise_of m.now)) result }
+{
+    let Some(score) = &m.ex.setting else {
+        return Err(Stop::Refused(Refusal::NoSetting));
+    };
+    let marks = mixed_marks(alloc, m, score)?;
+    let shown = shown_marks(alloc, marks.as_slice())?;
+    let text = picture(alloc, m.ex, Some(shown.as_slice()), None)?;
+    Ok(Output::of_text(verdict_of(marks.as_slice()), text))
 }

@@ -1,17 +1,20 @@
-//! The commands `print`, `tosmf`, `toxml` and `markxml`.
+//! The commands `print`, `tosmf`, `toxml`, `markxml`, `picture` and `markpicture`.
 
 ghost use Rattle.std.specs.Prelude.{◌≡◌, IfOk, length, map, nat_lt};
 ghost use Rattle.fux_grid.specs.Exercises.{IsValid};
 ghost use Rattle.works.specs.Marked.{marks_verdict};
-ghost use Rattle.works.specs.Rendered.{MarksXml, Prints, ShowsMarks, WritesSmf, WritesXml, shown_mark};
+ghost use Rattle.works.specs.Rendered.{MarksPicture, MarksXml, Pictures, Prints, ShowsMarks, WritesSmf, WritesXml, shown_mark, shown_penalty as penalty_shown};
 ghost use Rattle.works.specs.Works.{Answers};
 
+use crate::charging::penalty_of;
 use crate::refusal::Refusal;
 use crate::work::{Output, Stop, Verdict};
 use fux_grid::Exercise;
 use fux_pitch::Memory;
+use penalty_sheet::Sheet;
 use score_marker::{Mark, marks};
 use score_print::print_wrapped;
+use score_picture::picture;
 use score_xml::score_xml;
 use std::alloc::Global;
 use written_notes::SheetMark;
@@ -64,7 +67,7 @@ fn shown_mark(mark: Mark) -> SheetMark
 }
 
 /// Marks as a sheet shows them.
-fn shown_marks(alloc: Global, marks: &[Mark]) -> Result<Vec<SheetMark>, Memory>
+pub fn shown_marks(alloc: Global, marks: &[Mark]) -> Result<Vec<SheetMark>, Memory>
     ensures { IfOk result (λ shown. shown.items ≡ map shown_mark marks.now) }
 {
     let mut shown = Vec::new(alloc);
@@ -75,7 +78,7 @@ fn shown_marks(alloc: Global, marks: &[Mark]) -> Result<Vec<SheetMark>, Memory>
 }
 
 /// What marks say, all in all.
-fn verdict_of(marks: &[Mark]) -> Verdict
+pub fn verdict_of(marks: &[Mark]) -> Verdict
     ensures { result ≡ marks_verdict (nat_lt 0 (length marks.now)) }
 {
     if marks.is_empty() {
@@ -105,4 +108,43 @@ pub fn mark_xml(alloc: Global, ex: &Exercise) -> Result<Output, Stop>
     };
     let marks = marks(alloc, ex, score)?;
     Ok(marked_document(alloc, ex, marks.as_slice())?)
+}
+
+/// The penalty of the setting of an exercise over a sheet of weights, where it is wanted.
+fn shown_penalty(ex: &Exercise, sheet: &Sheet, wanted: bool) -> Option<u64>
+    requires { IsValid ex.now }
+    ensures { result ≡ penalty_shown wanted sheet.now ex.now }
+{
+    if !wanted {
+        return None;
+    }
+    match &ex.setting {
+        Some(score) => Some(penalty_of(ex, sheet, score)),
+        None => None,
+    }
+}
+
+/// The picture of an exercise: of its setting, with its penalty over a sheet of weights where that
+/// is wanted; or without one of the sheet to fill in.
+pub fn to_picture(alloc: Global, ex: &Exercise, sheet: &Sheet, wanted: bool) -> Result<Output, Stop>
+    requires { IsValid ex.now }
+    ensures { Answers (Pictures wanted sheet.now ex.now) result }
+{
+    let penalty = shown_penalty(ex, sheet, wanted);
+    let text = picture(alloc, ex, None, penalty)?;
+    Ok(Output::of_text(Verdict::Favorable, text))
+}
+
+/// The picture of the setting of an exercise, with the notes of its marks in red.
+pub fn mark_picture(alloc: Global, ex: &Exercise) -> Result<Output, Stop>
+    requires { IsValid ex.now }
+    ensures { Answers (MarksPicture ex.now ex.now) result }
+{
+    let Some(score) = &ex.setting else {
+        return Err(Stop::Refused(Refusal::NoSetting));
+    };
+    let marks = marks(alloc, ex, score)?;
+    let shown = shown_marks(alloc, marks.as_slice())?;
+    let text = picture(alloc, ex, Some(shown.as_slice()), None)?;
+    Ok(Output::of_text(verdict_of(marks.as_slice()), text))
 }

@@ -7,6 +7,7 @@ use Rattle.note_shapes.proofs.written.put_head.Goals as goal
 pub returns : goal.returns
 returns c =
     let old = c.args.shapes.now.items in
+    let all = c.args.all.now in
     let place = c.args.place.now in
     let note = c.args.note.now in
     let head = c.args.head.now in
@@ -14,7 +15,7 @@ returns c =
     let p2 = p1 ++ At (head_symbol note.value.base) (point head.x head.y) ∷ [] in
     let p3 = p2 ++ stems note.value.base head in
     let p4 = p3 ++ signs note.sign head.x head.y in
-    pushed old _ (ties place note head)
+    pushed old _ (ties all place note head)
     (pushed old p4 _
     (pushed old p3 (signs note.sign head.x head.y)
     (pushed old p2 (stems note.value.base head)

@@ -9,5 +9,5 @@ invariant-loop-bar l = record {
   made : l.places.items ≡ map (λ bar. place_of l.ex l.lines l.tall (suc bar)) (range_with_len 0 l.bar);
   last : l.place ≡ place_of l.ex l.lines l.tall l.bar;
   reach : l.place.left + l.place.room.width ≤ 1030;
-  top : l.place.top ≤ 60 + 4294967296 * l.bar;
+  top : l.place.top ≤ 60 + 4294967315 * l.bar;
 }

@@ -1,0 +1,5 @@
+pub mod Names
+pub mod NoteRows
+pub mod Pictures
+pub mod Pieces
+pub mod StaffRows

@@ -1,0 +1,12 @@
+//! Pictures of exercises as SVG, with or without a setting, plain or with the marks in red.
+#![tactic(auto)]
+
+mod bars;
+mod foot;
+mod names;
+mod notes;
+mod pages;
+mod staves;
+mod symbols;
+
+pub use pages::picture;
