@@ -18,7 +18,7 @@ use Rattle.command_words.specs.declared.command.Job.TheVariants.{Compose, Best, 
 use Rattle.command_words.specs.declared.command.MixedJob.{MixedJob}
 use Rattle.command_words.specs.declared.command.MixedJob.TheVariants as mixed
 use Rattle.command_words.specs.declared.command.Making.{Making}
-use Rattle.command_words.specs.declared.command.Making.TheVariants.{OnExercise, OnMixed, Check, FromSmf, Drill, Class, Canon, NewCantus, CheckCantus}
+use Rattle.command_words.specs.declared.command.Making.TheVariants.{OnExercise, OnMixed, Check, FromSmf, Drill, MarkAnswer, Class, Canon, NewCantus, CheckCantus}
 use Rattle.command_words.specs.declared.command.Wanted.{Wanted}
 use Rattle.command_words.specs.declared.verbs.Verb.{Verb}
 use Rattle.command_words.specs.declared.verbs.Verb.TheVariants as verb
@@ -37,6 +37,7 @@ pub data Task : Type 0 where
   check : (name certificate : Text) (sheet : Option Text) → Task
   fromsmf : (name : Text) (head : Head) → Task
   drill : (number : ℕ) (by_sharper : Bool) → Task
+  mark_answer : (name lesson : Text) → Task
   class_report : (list : Text) → Task
   find_canon : (name : Text) (sheet : Option Text) (budget : ℕ) → Task
   find_cantus : (wanted : Wanted) (sheet : Option Text) (budget : ℕ) → Task
@@ -54,6 +55,7 @@ making_task (OnMixed name sheet named job) = on_mixed name.now (sheet_named shee
 making_task (Check name certificate sheet) = check name.now certificate.now (sheet_named sheet)
 making_task (FromSmf name head) = fromsmf name.now head
 making_task (Drill number by_sharper) = drill number by_sharper
+making_task (MarkAnswer name lesson) = mark_answer name.now lesson.now
 making_task (Class list) = class_report list.now
 making_task (Canon name sheet budget) = find_canon name.now (sheet_named sheet) budget
 making_task (NewCantus wanted sheet budget) = find_cantus wanted (sheet_named sheet) budget
@@ -182,6 +184,14 @@ from_smf_asked rows = do
 abbrev pub drill_asked : List Row → Option Task
 drill_asked rows =
     number_at (codes "N") 0 1000000 rows >>= λ number. Some (drill number (is_set (codes "best") rows))
+
+-- marking an exercise alone, or as an answer to a lesson
+abbrev pub marking_of : Text → Option Text → Task
+marking_of name None = on_exercise name None Mark
+marking_of name (Some lesson) = mark_answer name lesson
+
+abbrev pub mark_asked : List Row → Option Task
+mark_asked rows = first_of (codes "EX") rows >>= λ name. Some (marking_of name (first_of (codes "lesson") rows))
 
 abbrev pub class_asked : List Row → Option Task
 class_asked rows = first_of (codes "LIST") rows >>= λ list. Some (class_report list)
@@ -323,7 +333,7 @@ asks verb.Compose = compose_asked
 asks verb.Best = best_asked
 asks verb.Certify = certify_asked
 asks verb.Check = check_asked
-asks verb.Mark = job_asked Mark
+asks verb.Mark = mark_asked
 asks verb.Cantus = job_asked Cantus
 asks verb.Print = print_asked
 asks verb.ToSmf = job_asked ToSmf

@@ -110,6 +110,11 @@ pub enum Making<'a> {
         number: u32,
         by_sharper: bool,
     },
+    /// What the exercise in a file has otherwise than the lesson in another, and its marks by that.
+    MarkAnswer {
+        name: &'a str,
+        lesson: &'a str,
+    },
     /// The report of the exercises in the files that a list names.
     Class {
         list: &'a str,

@@ -116,6 +116,8 @@ pub enum Part {
     Wrap,
     /// The penalty is to stand below the setting.
     Penalty,
+    /// The file of a lesson.
+    Lesson,
     /// The mode of a MIDI file.
     Mode,
     /// The species of a MIDI file.
@@ -157,7 +159,7 @@ impl Verb {
                 &[Part::Exercise, Part::Sheet, Part::Budget, Part::Form],
             ),
             Verb::Check => ("check", &[Part::Exercise, Part::Certificate, Part::Sheet]),
-            Verb::Mark => ("mark", &[Part::Exercise]),
+            Verb::Mark => ("mark", &[Part::Exercise, Part::Lesson]),
             Verb::Cantus => ("cantus", &[Part::Exercise]),
             Verb::Print => ("print", &[Part::Exercise, Part::Wrap]),
             Verb::ToSmf => ("tosmf", &[Part::Exercise]),
@@ -253,6 +255,7 @@ impl Part {
             Part::Against => "against",
             Part::Wrap => "wrap",
             Part::Penalty => "penalty",
+            Part::Lesson => "lesson",
             Part::Mode => "mode",
             Part::Species => "species",
             Part::Voice => "voice",
@@ -278,6 +281,11 @@ impl Part {
             | Part::High => Kind::Word,
             Part::Sheet | Part::Budget | Part::Form | Part::MayWith | Part::Against | Part::Wrap =>
                 Kind::Option,
+            | Part::Budget
+            | Part::Form
+            | Part::MayWith
+            | Part::Against
+            | Part::Lesson => Kind::Option,
             Part::With | Part::Mode | Part::Species | Part::Voice | Part::Cantus => Kind::Needed,
             Part::Penalty | Part::TopFirst | Part::BySharper => Kind::Flag,
         }

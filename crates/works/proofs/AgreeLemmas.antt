@@ -117,6 +117,7 @@ width_of : (ex : Exercise) (said : Refusal) → RefusesWidth ex said → WidthOf
 width_of ex (refusal.TooWide place count) h = (place, count, refl, h)
 width_of ex (refusal.Text kind line column) h = absurd h
 width_of ex refusal.NoSetting h = absurd h
+width_of ex (refusal.Lesson kind line column) h = absurd h
 width_of ex (refusal.With voice) h = absurd h
 width_of ex (refusal.List line) h = absurd h
 width_of ex (refusal.Canon line) h = absurd h
@@ -128,6 +129,7 @@ text_of : (bytes : List ℕ) (said : Refusal) → RefusesText bytes said → Tex
 text_of bytes (refusal.Text kind line column) h = (kind, line, column, refl, h)
 text_of bytes (refusal.TooWide place count) h = absurd h
 text_of bytes refusal.NoSetting h = absurd h
+text_of bytes (refusal.Lesson kind line column) h = absurd h
 text_of bytes (refusal.With voice) h = absurd h
 text_of bytes (refusal.List line) h = absurd h
 text_of bytes (refusal.Canon line) h = absurd h
@@ -140,6 +142,7 @@ sheet_of sheets (refusal.Sheet fault) h = (fault, refl, h)
 sheet_of sheets (refusal.TooWide place count) h = absurd h
 sheet_of sheets (refusal.Text kind line column) h = absurd h
 sheet_of sheets refusal.NoSetting h = absurd h
+sheet_of sheets (refusal.Lesson kind line column) h = absurd h
 sheet_of sheets (refusal.With voice) h = absurd h
 sheet_of sheets (refusal.List line) h = absurd h
 sheet_of sheets (refusal.Canon line) h = absurd h

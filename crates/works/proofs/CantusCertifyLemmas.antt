@@ -79,6 +79,7 @@ module _ (plan : CantusPlan) (budget : ℕ) where
   of_best cantus penalty best (Err (refusal.TooWide place count)) made = absurd made
   of_best cantus penalty best (Err (refusal.Text kind line column)) made = absurd made
   of_best cantus penalty best (Err refusal.NoSetting) made = absurd made
+  of_best cantus penalty best (Err (refusal.Lesson kind line column)) made = absurd made
   of_best cantus penalty best (Err (refusal.List line)) made = absurd made
   of_best cantus penalty best (Err (refusal.Canon line)) made = absurd made
   of_best cantus penalty best (Err (refusal.With voice)) made = absurd made
@@ -101,6 +102,7 @@ module _ (plan : CantusPlan) (budget : ℕ) where
   of_none none (Err (refusal.TooWide place count)) made = absurd made
   of_none none (Err (refusal.Text kind line column)) made = absurd made
   of_none none (Err refusal.NoSetting) made = absurd made
+  of_none none (Err (refusal.Lesson kind line column)) made = absurd made
   of_none none (Err (refusal.List line)) made = absurd made
   of_none none (Err (refusal.Canon line)) made = absurd made
   of_none none (Err (refusal.With voice)) made = absurd made

@@ -127,6 +127,7 @@ module _ (budget : ℕ) (form : Form) (sheet : Sheet) (ex : Exercise) (narrow : 
   of_best score penalty best (Err (refusal.TooWide place count)) made = absurd made
   of_best score penalty best (Err (refusal.Text kind line column)) made = absurd made
   of_best score penalty best (Err refusal.NoSetting) made = absurd made
+  of_best score penalty best (Err (refusal.Lesson kind line column)) made = absurd made
   of_best score penalty best (Err (refusal.List line)) made = absurd made
   of_best score penalty best (Err (refusal.Canon line)) made = absurd made
   of_best score penalty best (Err (refusal.With voice)) made = absurd made
@@ -151,6 +152,7 @@ module _ (budget : ℕ) (form : Form) (sheet : Sheet) (ex : Exercise) (narrow : 
   of_none none (Err (refusal.TooWide place count)) made = absurd made
   of_none none (Err (refusal.Text kind line column)) made = absurd made
   of_none none (Err refusal.NoSetting) made = absurd made
+  of_none none (Err (refusal.Lesson kind line column)) made = absurd made
   of_none none (Err (refusal.List line)) made = absurd made
   of_none none (Err (refusal.Canon line)) made = absurd made
   of_none none (Err (refusal.With voice)) made = absurd made

@@ -1,4 +1,5 @@
 pub mod AgreeLemmas
+pub mod AnsweredLemmas
 pub mod BestLemmas
 pub mod BlameLemmas
 pub mod CanonLemmas

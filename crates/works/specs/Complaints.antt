@@ -5,7 +5,7 @@ use Rattle.fux_grid.specs.declared.exercise.Place.{Place}
 use Rattle.works.specs.declared.complaint.FileName.{FileName}
 use Rattle.works.specs.declared.complaint.FileName.TheVariants.{Given, Listed}
 use Rattle.works.specs.declared.refusal.Refusal.{Refusal}
-use Rattle.works.specs.declared.refusal.Refusal.TheVariants.{Text, NoSetting, With, List as NoList, Canon as NoCanon, TooWide, LongCertificate, Sheet, Midi}
+use Rattle.works.specs.declared.refusal.Refusal.TheVariants.{Text, NoSetting, Lesson as NoLesson, With, List as NoList, Canon as NoCanon, TooWide, LongCertificate, Sheet, Midi}
 use Rattle.penalty_sheet.specs.Sheets as sheets
 use Rattle.smf_score.specs.FaultTexts as midi
 use Rattle.class_marker.specs.declared.unmarked.Unmarked.TheVariants as unmarked
@@ -22,6 +22,7 @@ width_text place count =
 abbrev pub refusal_text : List ℕ → Refusal → List ℕ
 refusal_text name (Text kind line column) = text_fault name kind line column
 refusal_text name NoSetting = unmarked_text name unmarked.NoSetting
+refusal_text name (NoLesson kind line column) = text_fault (codes "lesson") kind line column
 refusal_text name (With voice) = codes "with " ++ decimal voice
 refusal_text name (NoList line) = name ++ codes ":" ++ decimal line ++ codes ": list"
 refusal_text name (NoCanon line) = name ++ codes ":" ++ decimal line ++ codes ": canon"

@@ -1,3 +1,4 @@
+pub mod Answered
 pub mod Blame
 pub mod CantusCertified
 pub mod CantusChecked

@@ -16,13 +16,14 @@ use Rattle.works.specs.declared.work.Stop.TheVariants.{Refused, Memory}
 use Rattle.command_words.specs.declared.command.Job.{Job}
 use Rattle.command_words.specs.declared.command.Job.TheVariants.{Compose, Best, Mark, Weigh, Cantus, Print, ToSmf, ToXml, MarkXml, Picture, MarkPicture}
 use Rattle.penalty_sheet.specs.declared.sheet.Sheet.{Sheet}
+use Rattle.works.specs.Answered.{MarksAnswer}
 use Rattle.works.specs.CantusCertified.{MakesCantusCertificate}
 use Rattle.works.specs.CantusChecked.{ChecksCantusBy}
 use Rattle.works.specs.Certified.{Certifies}
 use Rattle.works.specs.Charged.{Weighs}
 use Rattle.works.specs.Checked.{AnswersWithin, Checks, IsUnreadable}
 use Rattle.works.specs.Classes.{IsClass, IsList, RefusesList}
-use Rattle.command_words.specs.Commands.{Task, on_exercise, on_mixed, certify, check, fromsmf, drill, class_report, find_canon, find_cantus, certify_cantus, check_cantus}
+use Rattle.command_words.specs.Commands.{Task, on_exercise, on_mixed, certify, check, fromsmf, drill, mark_answer, class_report, find_canon, find_cantus, certify_cantus, check_cantus}
 use Rattle.works.specs.TaskFiles.{as_list, names_in}
 use Rattle.works.specs.Complaints.{name_text}
 use Rattle.works.specs.Composed.{Composes, ComposesSharply}
@@ -127,6 +128,7 @@ Makes (certify name sheet budget form) files (text ∷ sheets) work = CertifiesT
 Makes (check name certificate sheet) files (text ∷ sheets) work = ChecksText files certificate sheets text work
 Makes (fromsmf name head) files (file ∷ []) work = ReadsMidi head file work
 Makes (drill number by_sharper) files [] work = Drills number by_sharper work
+Makes (mark_answer name lesson) files (text ∷ given ∷ []) work = MarksAnswer given text work
 Makes (class_report list) files (text ∷ []) work = ReportsClass files text work
 Makes (find_canon name sheet budget) files (text ∷ sheets) work = MakesCanon budget sheets text work
 Makes (find_cantus wanted sheet budget) files sheets work = MakesCantus wanted budget sheets work

@@ -1,6 +1,7 @@
 //! What each command makes of its files, and what is said where it makes nothing.
 #![tactic(auto)]
 
+mod answering;
 mod cantus_certifying;
 mod cantus_checking;
 mod certifying;

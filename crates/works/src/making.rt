@@ -11,6 +11,7 @@ ghost use Rattle.works.specs.Complaints.{refusal_text};
 ghost use Rattle.works.specs.Endings.{IsMade, Says, SaysRefusal, SaysWithin, SaysWritten};
 ghost use Rattle.works.specs.Works.{Answers, ChecksTexts, MakesOf, MakesOfText, OnTexts, ReadsSheetFile};
 
+use crate::answering::answer;
 use crate::cantus_checking::checked_cantus;
 use crate::charging::weigh;
 use crate::checking::check;
@@ -85,6 +86,7 @@ pub fn make<'a, F: Shelf, R: Threads + Sync>(
         Making::Drill { number, by_sharper } => {
             said(alloc, "", drill(rt, alloc, number, by_sharper))
         }
+        Making::MarkAnswer { name, lesson } => answer(alloc, name, lesson, shelf),
         Making::Class { list } => class(rt, alloc, list, shelf),
         Making::Canon {
             name,

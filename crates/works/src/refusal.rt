@@ -24,6 +24,12 @@ pub enum Refusal {
     },
     /// The exercise has no setting.
     NoSetting,
+    /// The file of the lesson is no note text: its first fault, in the same way.
+    Lesson {
+        kind: TextKind,
+        line: u32,
+        column: u32,
+    },
     /// A voice is named whose species may not be: it isn't free, or the exercise itself says its
     /// species.
     With {
@@ -72,6 +78,9 @@ fn put_refusal(text: &mut String, name: &str, refusal: &Refusal) -> Result<(), M
             Ok(write!(text, "{name}:{line}:{column}: {kind}")?)
         }
         Refusal::NoSetting => put_unmarked(text, name, Unmarked::NoSetting),
+        Refusal::Lesson { kind, line, column } => {
+            Ok(write!(text, "lesson:{line}:{column}: {kind}")?)
+        }
         Refusal::With { voice } => Ok(write!(text, "with {voice}")?),
         Refusal::List { line } => Ok(write!(text, "{name}:{line}: list")?),
         Refusal::Canon { line } => Ok(write!(text, "{name}:{line}: canon")?),

@@ -1,0 +1,4 @@
+pub mod Answering
+pub mod Answers
+pub mod DifferenceLines
+pub mod Differences
