@@ -13,6 +13,7 @@ form_is_simple verb.Best = refl
 form_is_simple verb.Certify = refl
 form_is_simple verb.Check = refl
 form_is_simple verb.Mark = refl
+form_is_simple verb.Explain = refl
 form_is_simple verb.Cantus = refl
 form_is_simple verb.Print = refl
 form_is_simple verb.ToSmf = refl

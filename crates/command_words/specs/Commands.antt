@@ -18,7 +18,7 @@ use Rattle.command_words.specs.declared.command.Job.TheVariants.{Compose, Best, 
 use Rattle.command_words.specs.declared.command.MixedJob.{MixedJob}
 use Rattle.command_words.specs.declared.command.MixedJob.TheVariants as mixed
 use Rattle.command_words.specs.declared.command.Making.{Making}
-use Rattle.command_words.specs.declared.command.Making.TheVariants.{OnExercise, OnMixed, Check, FromSmf, Drill, MarkAnswer, Class, Canon, NewCantus, CheckCantus}
+use Rattle.command_words.specs.declared.command.Making.TheVariants.{OnExercise, OnMixed, Check, FromSmf, Drill, MarkAnswer, Class, Canon, NewCantus, CheckCantus, Explain}
 use Rattle.command_words.specs.declared.command.Wanted.{Wanted}
 use Rattle.command_words.specs.declared.verbs.Verb.{Verb}
 use Rattle.command_words.specs.declared.verbs.Verb.TheVariants as verb
@@ -35,6 +35,7 @@ pub data Task : Type 0 where
   on_mixed : (name : Text) (sheet : Option Text) (named : List (Option ℕ)) (job : MixedJob) → Task
   certify : (name : Text) (sheet : Option Text) (budget : ℕ) (form : Form) → Task
   check : (name certificate : Text) (sheet : Option Text) → Task
+  explain : (name : Text) → Task
   fromsmf : (name : Text) (head : Head) → Task
   drill : (number : ℕ) (by_sharper : Bool) → Task
   mark_answer : (name lesson : Text) → Task
@@ -53,6 +54,7 @@ abbrev pub making_task : Making → Task
 making_task (OnExercise name sheet job) = on_exercise name.now (sheet_named sheet) job
 making_task (OnMixed name sheet named job) = on_mixed name.now (sheet_named sheet) named job
 making_task (Check name certificate sheet) = check name.now certificate.now (sheet_named sheet)
+making_task (Explain name) = explain name.now
 making_task (FromSmf name head) = fromsmf name.now head
 making_task (Drill number by_sharper) = drill number by_sharper
 making_task (MarkAnswer name lesson) = mark_answer name.now lesson.now
@@ -174,6 +176,9 @@ check_asked rows = do
 -- a job that needs nothing but an exercise
 abbrev pub job_asked : Job → List Row → Option Task
 job_asked job rows = first_of (codes "EX") rows >>= λ name. Some (on_exercise name None job)
+
+abbrev pub explain_asked : List Row → Option Task
+explain_asked rows = first_of (codes "FILE") rows >>= λ name. Some (explain name)
 
 abbrev pub from_smf_asked : List Row → Option Task
 from_smf_asked rows = do
@@ -334,6 +339,7 @@ asks verb.Best = best_asked
 asks verb.Certify = certify_asked
 asks verb.Check = check_asked
 asks verb.Mark = mark_asked
+asks verb.Explain = explain_asked
 asks verb.Cantus = job_asked Cantus
 asks verb.Print = print_asked
 asks verb.ToSmf = job_asked ToSmf

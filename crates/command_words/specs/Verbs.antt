@@ -13,7 +13,7 @@ use Rattle.command_words.specs.declared.verbs.Verb.TheVariants as verb
 -- all commands
 abbrev pub verbs : List Verb
 verbs =
-    verb.Compose ∷ verb.Best ∷ verb.Certify ∷ verb.Check ∷ verb.Mark ∷ verb.Cantus ∷ verb.Print ∷ verb.ToSmf
+    verb.Compose ∷ verb.Best ∷ verb.Certify ∷ verb.Check ∷ verb.Mark ∷ verb.Explain ∷ verb.Cantus ∷ verb.Print ∷ verb.ToSmf
     ∷ verb.FromSmf ∷ verb.Drill ∷ verb.Class ∷ verb.Canon ∷ verb.Mixed ∷ verb.MarkMixed ∷ verb.Weigh ∷ verb.ToXml
     ∷ verb.MarkXml ∷ verb.Picture ∷ verb.MarkPicture ∷ verb.NewCantus ∷ verb.CertCantus
     ∷ verb.CheckCantus ∷ []
@@ -25,6 +25,7 @@ row_of verb.Best = (codes "best", part.Exercise ∷ part.Sheet ∷ part.Budget �
 row_of verb.Certify = (codes "certify", part.Exercise ∷ part.Sheet ∷ part.Budget ∷ part.Form ∷ [])
 row_of verb.Check = (codes "check", part.Exercise ∷ part.Certificate ∷ part.Sheet ∷ [])
 row_of verb.Mark = (codes "mark", part.Exercise ∷ part.Lesson ∷ [])
+row_of verb.Explain = (codes "explain", part.File ∷ [])
 row_of verb.Cantus = (codes "cantus", part.Exercise ∷ [])
 row_of verb.Print = (codes "print", part.Exercise ∷ part.Wrap ∷ [])
 row_of verb.ToSmf = (codes "tosmf", part.Exercise ∷ [])

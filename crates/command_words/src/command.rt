@@ -100,6 +100,10 @@ pub enum Making<'a> {
         certificate: &'a str,
         sheet: Option<&'a str>,
     },
+    /// What is wrong with a text in a file, or with its setting.
+    Explain {
+        name: &'a str,
+    },
     /// The note text of a MIDI file.
     FromSmf {
         name: &'a str,

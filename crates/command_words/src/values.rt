@@ -5,7 +5,7 @@ ghost use Rattle.clap.specs.Words.{first_of, found_of, rows_of};
 ghost use Rattle.fux_text.specs.Names.{mode_named};
 ghost use Rattle.smf_score.specs.Heads.{IsHead};
 ghost use Rattle.text_lines.specs.Numbers.{number_within};
-ghost use Rattle.command_words.specs.Commands.{AreNamed, HasHead, HasMidiHead, IsWanted, against_in, asks, best_asked, budget_in, canon_asked, certify_asked, certify_cantus_asked, check_asked, check_cantus_asked, class_asked, compose_asked, drill_asked, form_in, from_smf_asked, head_in, is_item, is_set, job_asked, making_task, mark_asked, mark_mixed_asked, mark_picture_asked, mark_xml_asked, mark_xml_with, marked_picture_with, marking_of, mixed_asked, named_in, new_cantus_asked, number_at, picture_asked, print_asked, said_of, task_of, wanted_in, weigh_asked, weighing_with, wrap_in};
+ghost use Rattle.command_words.specs.Commands.{AreNamed, HasHead, HasMidiHead, IsWanted, against_in, asks, best_asked, budget_in, canon_asked, certify_asked, certify_cantus_asked, check_asked, check_cantus_asked, class_asked, compose_asked, drill_asked, explain_asked, form_in, from_smf_asked, head_in, is_item, is_set, job_asked, making_task, mark_asked, mark_mixed_asked, mark_picture_asked, mark_xml_asked, mark_xml_with, marked_picture_with, marking_of, mixed_asked, named_in, new_cantus_asked, number_at, picture_asked, print_asked, said_of, task_of, wanted_in, weigh_asked, weighing_with, wrap_in};
 
 use crate::command::{Command, Job, Making, MixedJob, Named, Wanted};
 use crate::verbs::Verb;
@@ -220,6 +220,15 @@ fn print_asked<'a>(matches: &ArgMatches<'a>) -> Option<Command<'a>>
     let sheet = None;
     let job = Job::Print { wrap };
     Some(Command::Make(Making::OnExercise { name, sheet, job }))
+}
+
+/// `explain`, on a file.
+fn explain_asked<'a>(matches: &ArgMatches<'a>) -> Option<Command<'a>>
+    ensures asked { option_map task_of result ≡ explain_asked (rows_of (found_of matches.now)) }
+    ensures head { IfSome result HasHead }
+{
+    let name = value(matches, "FILE")?;
+    Some(Command::Make(Making::Explain { name }))
 }
 
 /// `fromsmf`, on a MIDI file.
@@ -575,6 +584,7 @@ pub fn asked_of<'a>(verb: Verb, matches: &ArgMatches<'a>) -> Option<Command<'a>>
         Verb::Certify => certify_asked(matches),
         Verb::Check => check_asked(matches),
         Verb::Mark => mark_asked(matches),
+        Verb::Explain => explain_asked(matches),
         Verb::Cantus => job_asked(matches, Job::Cantus),
         Verb::Print => print_asked(matches),
         Verb::ToSmf => job_asked(matches, Job::ToSmf),

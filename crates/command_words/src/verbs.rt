@@ -17,6 +17,8 @@ pub enum Verb {
     Check,
     /// The marks of a setting.
     Mark,
+    /// What is wrong with a text or its setting.
+    Explain,
     /// The marks of a cantus firmus.
     Cantus,
     /// The printed score of a setting, or of the sheet to hand out.
@@ -54,12 +56,13 @@ pub enum Verb {
 }
 
 /// All commands.
-const VERBS: [Verb; 22] = [
+const VERBS: [Verb; 23] = [
     Verb::Compose,
     Verb::Best,
     Verb::Certify,
     Verb::Check,
     Verb::Mark,
+    Verb::Explain,
     Verb::Cantus,
     Verb::Print,
     Verb::ToSmf,
@@ -160,6 +163,7 @@ impl Verb {
             ),
             Verb::Check => ("check", &[Part::Exercise, Part::Certificate, Part::Sheet]),
             Verb::Mark => ("mark", &[Part::Exercise, Part::Lesson]),
+            Verb::Explain => ("explain", &[Part::File]),
             Verb::Cantus => ("cantus", &[Part::Exercise]),
             Verb::Print => ("print", &[Part::Exercise, Part::Wrap]),
             Verb::ToSmf => ("tosmf", &[Part::Exercise]),

@@ -11,6 +11,7 @@ pub mod ChargedLemmas
 pub mod CheckLemmas
 pub mod ClassLemmas
 pub mod ContentLemmas
+pub mod ExplainLemmas
 pub mod MakeLemmas
 pub mod MixedLemmas
 pub mod WithinLemmas

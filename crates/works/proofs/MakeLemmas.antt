@@ -13,9 +13,10 @@ use Rattle.command_words.specs.declared.command.Job.{Job}
 use Rattle.works.specs.declared.work.Output.{Output}
 use Rattle.works.specs.declared.work.Stop.{Stop}
 use Rattle.works.specs.declared.work.Stop.TheVariants as stop
-use Rattle.command_words.specs.Commands.{Task, drill, fromsmf, on_exercise}
+use Rattle.command_words.specs.Commands.{Task, drill, explain, fromsmf, on_exercise}
 use Rattle.works.specs.TaskFiles.{as_list, limit_in, name_in, names_in}
 use Rattle.works.specs.Drilled.{Drills}
+use Rattle.works.specs.Explained.{Explains}
 use Rattle.works.specs.Played.{ReadsMidi}
 use Rattle.works.specs.Endings.{IsMade, IsRefused, IsUnread, Says}
 use Rattle.works.specs.Texts.{Work}
@@ -89,6 +90,17 @@ of_one files name head file (Ok output) made [] content = absurd content
 of_one files name head file (Err (stop.Refused refusal)) made [] content = absurd content
 of_one files name head file (Ok output) made (bytes ∷ more ∷ all) content = absurd content.1
 of_one files name head file (Err (stop.Refused refusal)) made (bytes ∷ more ∷ all) content = absurd content.1
+
+pub of_text : (files : Files) (name : List ℕ) (file : Content) (answer : Result Output Stop)
+    → ((bytes : List ℕ) → IsContent 65536 file bytes → Answers (Explains name bytes) answer)
+    → (all : List (List ℕ)) → AreContents 65536 (file ∷ []) all → Answers (Makes (explain name) files all) answer
+of_text files name file (Ok output) made (bytes ∷ []) content = made bytes content.0
+of_text files name file (Err (stop.Refused refusal)) made (bytes ∷ []) content = made bytes content.0
+of_text files name file (Err stop.Memory) made all content = tt
+of_text files name file (Ok output) made [] content = absurd content
+of_text files name file (Err (stop.Refused refusal)) made [] content = absurd content
+of_text files name file (Ok output) made (bytes ∷ more ∷ all) content = absurd content.1
+of_text files name file (Err (stop.Refused refusal)) made (bytes ∷ more ∷ all) content = absurd content.1
 
 pub of_none : (files : Files) (number : ℕ) (by_sharper : Bool) (answer : Result Output Stop)
     → Answers (Drills number by_sharper) answer

@@ -10,6 +10,7 @@ pub mod Complaints
 pub mod Composed
 pub mod Drilled
 pub mod Endings
+pub mod Explained
 pub mod Imitated
 pub mod Invented
 pub mod Listed

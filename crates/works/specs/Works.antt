@@ -23,11 +23,12 @@ use Rattle.works.specs.Certified.{Certifies}
 use Rattle.works.specs.Charged.{Weighs}
 use Rattle.works.specs.Checked.{AnswersWithin, Checks, IsUnreadable}
 use Rattle.works.specs.Classes.{IsClass, IsList, RefusesList}
-use Rattle.command_words.specs.Commands.{Task, on_exercise, on_mixed, certify, check, fromsmf, drill, mark_answer, class_report, find_canon, find_cantus, certify_cantus, check_cantus}
+use Rattle.command_words.specs.Commands.{Task, on_exercise, on_mixed, certify, check, fromsmf, drill, mark_answer, class_report, find_canon, find_cantus, certify_cantus, check_cantus, explain}
 use Rattle.works.specs.TaskFiles.{as_list, names_in}
 use Rattle.works.specs.Complaints.{name_text}
 use Rattle.works.specs.Composed.{Composes, ComposesSharply}
 use Rattle.works.specs.Drilled.{Drills}
+use Rattle.works.specs.Explained.{Explains}
 use Rattle.works.specs.Imitated.{MakesCanon}
 use Rattle.works.specs.Invented.{MakesCantus}
 use Rattle.works.specs.Marked.{Marks, CantusMarks}
@@ -126,6 +127,7 @@ Makes (on_exercise name sheet job) files (text ∷ sheets) work = MakesOfText jo
 Makes (on_mixed name sheet named job) files (text ∷ sheets) work = MakesMixed named job sheets text work
 Makes (certify name sheet budget form) files (text ∷ sheets) work = CertifiesText budget form sheets text work
 Makes (check name certificate sheet) files (text ∷ sheets) work = ChecksText files certificate sheets text work
+Makes (explain name) files (text ∷ []) work = Explains name text work
 Makes (fromsmf name head) files (file ∷ []) work = ReadsMidi head file work
 Makes (drill number by_sharper) files [] work = Drills number by_sharper work
 Makes (mark_answer name lesson) files (text ∷ given ∷ []) work = MarksAnswer given text work

@@ -13,6 +13,7 @@ mod composing;
 mod content;
 mod drilling;
 mod exercise;
+mod explaining;
 mod imitating;
 mod inventing;
 mod law;

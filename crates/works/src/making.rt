@@ -21,6 +21,7 @@ use crate::composing::{best, compose};
 use crate::content::read_content;
 use crate::drilling::drill;
 use crate::exercise::{LONGEST_TEXT, exercise_of};
+use crate::explaining::explain;
 use crate::imitating::canon;
 use crate::inventing::new_cantus;
 use crate::marking::{cantus, mark};
@@ -78,6 +79,10 @@ pub fn make<'a, F: Shelf, R: Threads + Sync>(
                 certificate,
                 check_texts(rt, alloc, &text, &weights, shelf, certificate),
             )
+        }
+        Making::Explain { name } => {
+            let text = read_content(alloc, shelf, name, LONGEST_TEXT)?;
+            said(alloc, name, explain(alloc, name, &text))
         }
         Making::FromSmf { name, head } => {
             let file = read_content(alloc, shelf, name, LONGEST_MIDI)?;

@@ -3,11 +3,11 @@ use Rattle.std.proofs.lemmas.Result.{err_from_is_err_and}
 use Rattle.fux_port.specs.Counts.{Rose}
 use Rattle.fux_port.proofs.Rises.{rose_later}
 use Rattle.works.specs.TaskFiles.{as_list}
-use Rattle.command_words.specs.Commands.{check, drill, fromsmf, on_exercise, sheet_named}
+use Rattle.command_words.specs.Commands.{check, drill, explain, fromsmf, on_exercise, sheet_named}
 use Rattle.works.specs.Endings.{IsMade}
 use Rattle.works.proofs.BlameLemmas.{names_kept, whole_kept}
 use Rattle.works.proofs.CheckLemmas.{checked_said, of_check}
-use Rattle.works.proofs.MakeLemmas.{have_bytes, made_said, of_none, of_one, of_two, read_same, sheet_unread}
+use Rattle.works.proofs.MakeLemmas.{have_bytes, made_said, of_none, of_one, of_text, of_two, read_same, sheet_unread}
 use Rattle.works.proofs.making.make.Goals as goal
 
 pub returns-in_err-weights-in-OnExercise-clause-made :
@@ -88,6 +88,15 @@ returns-in_ok-weights-in-Check-clause-made g c =
     (rose_later _ _ _ c.in_ok-weights-in-Check.ensures.faults later))
     c.check_texts.ensures.checks) c.said_within.ensures.says)
 
+pub returns-in_ok-text-in-Explain-clause-made : goal.returns-in_ok-text-in-Explain-clause-made
+returns-in_ok-text-in-Explain-clause-made g c =
+    let name = c.in-Explain.name.now in
+    let text = c.in_ok-text-in-Explain.text in
+    rw c.in-Explain.is (made_said (explain name) (g.F.Shelf.files c.args.shelf.now) _ (text ∷ []) c.explain.result
+    c.said-in-Explain.result (c.in_ok-text-in-Explain.ensures.reads, tt)
+    (of_text (g.F.Shelf.files c.args.shelf.now) name text c.explain.result c.explain.ensures)
+    c.said-in-Explain.ensures.says)
+
 pub returns-in_ok-file-in-FromSmf-clause-made : goal.returns-in_ok-file-in-FromSmf-clause-made
 returns-in_ok-file-in-FromSmf-clause-made g c =
     let name = c.in-FromSmf.name.now in
@@ -149,6 +158,11 @@ returns-in_ok-weights-in-Check-clause-served g c =
     1073741824 c.in_ok-weights-in-Check.ensures.serving
     (whole_kept (serves c.args.shelf.now) (serves c.read_content-in-Check.new.shelf) certificate 1073741824
     c.in_ok-text-in-Check.ensures.serving (promised.within known.bytes known.had).0))))
+
+pub returns-in_err-text-in-Explain-clause-served : goal.returns-in_err-text-in-Explain-clause-served
+returns-in_err-text-in-Explain-clause-served g c =
+    let told = err_from_is_err_and c.from_residual-in_err-text-in-Explain.result c.from_residual-in_err-text-in-Explain.ensures.1 in
+    rw (c.in-Explain.is, told.1, told.2) (λ promised. c.in_err-text-in-Explain.ensures.served promised.before.0)
 
 pub returns-in_err-file-in-FromSmf-clause-served : goal.returns-in_err-file-in-FromSmf-clause-served
 returns-in_err-file-in-FromSmf-clause-served g c =

@@ -1,0 +1,3 @@
+pub mod LineLoops
+pub mod RangeLemmas
+pub mod Rows

@@ -1,0 +1,11 @@
+pub mod Below
+pub mod Explained
+pub mod Given
+pub mod HeadLines
+pub mod Hints
+pub mod ItemHints
+pub mod Known
+pub mod MarkedLines
+pub mod Range
+pub mod Sing
+pub mod WordTests
