@@ -15,7 +15,8 @@ What is asked:
   of its line `<!-- files: .. -->`;
 - docs/gate.md has a row for each crate, and says why one has no wrong bodies;
 - docs/proved.md has a section for each crate, and the list of crates by floors has each;
-- docs/definitions.md marks the definitions that `run` reaches.
+- docs/definitions.md marks the definitions that `run` reaches;
+- docs/rules.md has each rule in the sentence that the program tells of it.
 """
 import glob
 import os
@@ -261,6 +262,19 @@ def marks():
     return ["docs/definitions.md: its marks aren't those of the code: docs/reached.py --mark"]
 
 
+def sentences_of_rules():
+    """The sentences of docs/rules.md, against those of the program, which go by number."""
+    code = text_of("crates/mark_evidence/src/sentences.rt")
+    told = re.findall(r'^ +(?:\d+|_) => "(.*)",$', code, re.M)
+    names = [f"S{n}" for n in range(1, 29)] + ["K1", "K2", "K3"]
+    wanted = [f"- {name}: {it}" for name, it in zip(names, told)]
+    found = re.findall(r"^- [SK]\d+: .*$", text_of("docs/rules.md"), re.M)
+    if len(told) == len(names) and wanted == found:
+        return []
+    over = [it for it in found + wanted if it not in wanted or it not in found] or ["the order"]
+    return [f"docs/rules.md: not what the program says of a rule: {it}" for it in over]
+
+
 def put(name, page):
     with open(os.path.join(TOP, name), "w", encoding="utf-8") as it:
         it.write(page)
@@ -287,7 +301,7 @@ def main():
         if name != "CHANGES.md":
             told += unknown_words(name, known, names)
     told += files_of_a_rule(names) + crates_of_gate() + crates_of_proved()
-    told += crates_by_floor() + marks()
+    told += crates_by_floor() + marks() + sentences_of_rules()
     for line in told:
         print(f"docs/check.py: {line}")
     return 1 if told else 0

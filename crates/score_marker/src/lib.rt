@@ -15,7 +15,7 @@ pub use cantus::cantus_marks;
 pub use charge::{Charge, LineCharge, TollCharge};
 pub use law::lawful_is_unmarked;
 pub use mark::Mark;
-pub use mark_lines::marks_text;
+pub use mark_lines::{marks_text, put_count, put_mark};
 pub use one_list::{charges_are_whole, marks_are_one};
 pub use setting::marks;
 pub use weighing::charges;

@@ -67,7 +67,7 @@ fn put_price(out: &mut String, price: Price) -> Result<(), Memory>
 
 /// Appends the line of a mark.
 #[tactic(auto, unfolding(crate::specs::MarkLines::mark_line))]
-pub(crate) fn put_mark(out: &mut String, price: Price, mark: &Mark) -> Result<(), Memory>
+pub fn put_mark(out: &mut String, price: Price, mark: &Mark) -> Result<(), Memory>
     ensures { OnOk result (string_bytes out.new ≡ string_bytes out.old ++ mark_line price mark.now) }
 {
     let bar = mark.bar;
@@ -93,7 +93,7 @@ fn put_marks(out: &mut String, ex: &Exercise, marks: &[Mark]) -> Result<(), Memo
 }
 
 /// Appends the line that says how many marks there are.
-pub(crate) fn put_count(out: &mut String, count: usize) -> Result<(), Memory>
+pub fn put_count(out: &mut String, count: usize) -> Result<(), Memory>
     ensures { OnOk result (string_bytes out.new ≡ string_bytes out.old ++ count_line count) }
 {
     write!(out, "marks {count}\n")?;

@@ -1,0 +1,21 @@
+//! What explains marks in words: the sentence of the rule, and the notes and intervals that show
+//! the break.
+#![tactic(auto)]
+
+mod asking;
+mod columns;
+mod evidence;
+mod explaining;
+mod far;
+mod given;
+mod intervals;
+mod lines;
+mod notes;
+mod relaxed;
+mod sentences;
+mod sounding;
+mod voices;
+mod words;
+
+pub use asking::asked;
+pub use explaining::explained;
