@@ -1,4 +1,4 @@
--- Each claim that is written has a line (`to_come-fit`, `next-fits`).
+-- Each claim that is written has a line (`claims_of-fit`, `to_come-fit`, `next-fits`).
 use Rattle.std.proofs.Common.{◌≡◌, ◌⊎◌, inl, inr, ℕ, zero, suc, ◌≤◌, Bool, true, false, List, [], ◌∷◌, ◌++◌, Option, Some, None, if◌then◌else◌, reverse, refl, subst, arith}
 use Rattle.std.specs.Prelude.{IfSome}
 use Rattle.std.specs.List.{AllByRecursion, find, flat_map}
@@ -18,7 +18,7 @@ use Rattle.cantus_space.specs.declared.plan.CantusPlan.{CantusPlan}
 use Rattle.cantus_law.specs.Certificates.{tree_of}
 use Rattle.cantus_law.specs.Claims.{Said, has_break_of}
 use Rattle.cantus_law.specs.Known.{ways_of}
-use Rattle.cantus_law.specs.Writer.{first_claim, is_cantus_of, is_no_better, least_break, unbroken_claim}
+use Rattle.cantus_law.specs.Writer.{claims_of, first_claim, is_cantus_of, is_no_better, least_break, unbroken_claim}
 use Rattle.cantus_law.specs.declared.known.CantusKnown.{CantusKnown}
 use Rattle.cantus_writer.specs.Writing.{to_come}
 
@@ -90,6 +90,9 @@ module _ (plan : CantusPlan) (said : Said) where
           else option_map_or Broken (least_break plan ps) (unbroken_claim plan said ps))
       cantus true = (omega arith, omega arith)
       cantus false = rule (least_break plan ps) refl
+
+  pub claims_of-fit : AllByRecursion IsClaim (claims_of plan said)
+  claims_of-fit = claims-fit (tree_of plan said) (first_claim plan said) own_fits plan.bars []
 
   pub to_come-fit : (walk : Walk CantusKnown) → AllByRecursion IsClaim (to_come plan said walk)
   to_come-fit walk =

@@ -6,7 +6,6 @@ ghost use Rattle.cantus_law.specs.Writer.{claims_of};
 ghost use Rattle.cantus_writer.specs.Heads.{EndsUnwritten, FailsShort, said_with};
 ghost use Rattle.cantus_writer.specs.Writing.{written_certificate};
 ghost use Rattle.fux_port.specs.Counts.{Rose};
-ghost use Rattle.fux_port.specs.Promises.{TakesAll};
 ghost use Rattle.fux_port.specs.Written.{appended};
 
 use crate::beginning::begin;
@@ -32,8 +31,9 @@ fn write_for_case<K: Sink>(alloc: Global, case: &CantusCase, sink: &mut K) -> Re
     ensures short { FailsShort (K.written sink.old) (K.written sink.new)
         (written_certificate case.now.space case.now.head.best) result }
 
-    // No sink is blamed that promises each write.
-    ensures taken { TakesAll (K.serves sink.old) → result ≢ Err CertWrite.WriteFault }
+    // No sink is blamed that promises to take the whole certificate.
+    ensures taken { K.serves sink.old (length (written_certificate case.now.space case.now.head.best))
+        → result ≢ Err CertWrite.WriteFault }
 
     // Nothing is written of a certificate that is too long, nor where there is not enough memory.
     ensures too_long { result ≡ Err CertWrite.TooLong
@@ -77,8 +77,9 @@ pub fn certify_cantus<K: Sink>(
     ensures short { FailsShort (K.written sink.old) (K.written sink.new)
         (written_certificate space.now (said_with best.entry)) result }
 
-    // No sink is blamed that promises each write.
-    ensures taken { TakesAll (K.serves sink.old) → result ≢ Err CertWrite.WriteFault }
+    // No sink is blamed that promises to take the whole certificate.
+    ensures taken { K.serves sink.old (length (written_certificate space.now (said_with best.entry)))
+        → result ≢ Err CertWrite.WriteFault }
 
     // The certificate is valid.
     ensures valid { IsCantusCertificate space.now (said_with best.entry) (claims_of space.now (said_with best.entry)) }

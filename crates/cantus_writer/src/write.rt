@@ -2,7 +2,6 @@
 
 ghost use Rattle.std.specs.Prelude.{◌≡◌, ◌≤◌, ◌↔◌, ◌+◌, ◌++◌, IsOk, IsTrue, OnErr, OnOk, length};
 ghost use Rattle.fux_port.specs.Counts.{Rose};
-ghost use Rattle.fux_port.specs.Promises.{TakesAll};
 ghost use Rattle.fux_port.specs.Written.{StopsShort, appended};
 ghost use Rattle.cantus_writer.specs.Writing.{IsWriting, lines_left};
 
@@ -55,7 +54,7 @@ fn write_claims<K: Sink>(
     ensures cause { OnErr result (Rose (K.faults sink.old) (K.faults sink.new)) }
     ensures err { OnErr result
         (StopsShort (K.written sink.old) (K.written sink.new) (lines_left case.now.space case.now.head.best walk.old)) }
-    ensures taken { TakesAll (K.serves sink.old) → IsOk result }
+    ensures taken { K.serves sink.old (length (lines_left case.now.space case.now.head.best walk.old)) → IsOk result }
     ensures faults { K.faults sink.old ≤ K.faults sink.new }
 {
     let mut waiting: ArrayString<4096> = ArrayString::new();
@@ -78,7 +77,8 @@ pub(crate) fn write_parts<K: Sink>(
     ensures cause { OnErr result (Rose (K.faults sink.old) (K.faults sink.new)) }
     ensures err { OnErr result (StopsShort (K.written sink.old) (K.written sink.new)
         (text.now ++ lines_left case.now.space case.now.head.best walk.old)) }
-    ensures taken { TakesAll (K.serves sink.old) → IsOk result }
+    ensures taken { K.serves sink.old (length (text.now ++ lines_left case.now.space case.now.head.best walk.old))
+        → IsOk result }
     ensures faults { K.faults sink.old ≤ K.faults sink.new }
 {
     write_all(sink, text.as_bytes())?;

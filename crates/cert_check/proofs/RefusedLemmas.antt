@@ -8,7 +8,7 @@ use Rattle.std.proofs.Math.Seq.{take-append_seam}
 use Rattle.std.specs.List.{flat_map}
 use Rattle.std.specs.Io.{StartsWith}
 use Rattle.cert_check.specs.Answers.{Answers}
-use Rattle.cert_check.specs.Settings.{AcceptsValid, AreStated, HasStatedFault, HasUntrue, IsOpeningOf, IsOpeningText, IsSound, IsUnsound, IsVerdictOn, Opening, Refuses, RefusesFront, form_of, setting_subject, stated_text}
+use Rattle.cert_check.specs.Settings.{AcceptsValid, AreStated, HasStatedFault, HasUntrue, IsOpeningOf, IsOpeningText, IsSound, IsUnsound, IsVerdictOn, Opening, Refuses, RefusesFront, form_of, setting_subject}
 use Rattle.cert_check.specs.declared.checking.CheckFault.{CheckFault}
 use Rattle.cert_check.proofs.StartLemmas.{at_front}
 use Rattle.cert_check.proofs.ToldEntries.{Ends, IsStatedTold, Last, NotEnded, NotOwed, one_stated}
@@ -21,6 +21,7 @@ use Rattle.cert_file.proofs.OneVerdict.{IsRefusedOnce}
 use Rattle.cert_file.proofs.StatedTexts.{same_entries}
 use Rattle.cert_law.specs.Certificates.{IsHeadSound}
 use Rattle.cert_law.specs.Entries.{AreTrueEntries, entry_count}
+use Rattle.cert_law.specs.Writer.{stated_text}
 use Rattle.cert_text.specs.declared.answers.CertFault.{CertFault}
 use Rattle.cert_text.specs.declared.answers.CertFault.TheVariants.{CertHead as WrongHead, CertWord, CertEnd, Memory}
 use Rattle.cert_text.specs.declared.answers.CertHead.{CertHead}

@@ -4,6 +4,7 @@ use Rattle.std.specs.Io.{StartsWith}
 use Rattle.std.specs.List.{AllByRecursion, flat_map}
 use Rattle.cert_law.specs.Certificates.{Holds, IsHeadSound, tree_of}
 use Rattle.cert_law.specs.Entries.{AreTrueEntries, IsFirstFalse, entry_count}
+use Rattle.cert_law.specs.Writer.{stated_text}
 use Rattle.cert_file.specs.Readings.{FaultAtLine, Files, Stated, judged_bytes}
 use Rattle.cert_file.specs.declared.verdict.Verdict.{Verdict}
 use Rattle.cert_file.specs.declared.verdict.Verdict.TheVariants as verdict
@@ -19,7 +20,7 @@ use Rattle.cert_text.specs.declared.answers.Why.{Why}
 use Rattle.cert_text.specs.declared.answers.Why.TheVariants as whys
 use Rattle.cert_text.specs.declared.potential.Potential.{Potential}
 use Rattle.cert_text.specs.HeadTexts.{Heads, TextStops}
-use Rattle.cert_text.specs.Potentials.{IsPotential, last_line, potential_line}
+use Rattle.cert_text.specs.Potentials.{IsPotential, potential_line}
 use Rattle.cert_file.specs.Judgments.{IsVerdictBy}
 use Rattle.cert_file.specs.Subjects as subjects
 use Rattle.cert_file.specs.Subjects.{Subject}
@@ -45,12 +46,8 @@ abbrev pub AreStated : Exercise → Option (List Potential) → Type 0
 AreStated ex None = ⊤
 AreStated ex (Some entries) = (length entries ≡ entry_count ex) × AllByRecursion IsPotential entries
 
--- the text of what is stated, through the line `claims`; in the first form the head has that line
-abbrev pub stated_text : Option (List Potential) → List ℕ
-stated_text None = []
-stated_text (Some entries) = flat_map potential_line entries ++ last_line
-
--- the text of a head and of what is stated
+-- the text of a head and of what is stated, through the line `claims`; in the first form the head has
+-- that line
 pub record IsOpeningOf (ex : Exercise) (head : CertHead) (stated : Option (List Potential)) (bytes : List ℕ) : Type 0
   where
     pub front : List ℕ

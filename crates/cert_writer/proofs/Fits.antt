@@ -1,4 +1,4 @@
--- Each claim that is written has a line (`to_come-fit`, `next-fits`).
+-- Each claim that is written has a line (`claims_of-fit`, `to_come-fit`, `next-fits`).
 use Rattle.std.proofs.Common.{◌≡◌, ◌⊎◌, inl, inr, ℕ, zero, suc, ◌≤◌, Bool, true, false, ◌&&◌, ◌||◌, List, [], ◌∷◌, ◌++◌, take, length, slice_index_or, Option, Some, None, if◌then◌else◌, refl, ap, sym, ◌∙◌, subst, arith}
 use Rattle.std.specs.Prelude.{IfSome, is_none, nat_le}
 use Rattle.std.specs.List.{AllByRecursion, find, flat_map, list_all}
@@ -13,14 +13,15 @@ use Rattle.cert_tree.specs.Walks.{owed_by_walk}
 use Rattle.cert_tree.specs.Writing.{claims_at, claims_with, steps_left}
 use Rattle.cert_tree.specs.declared.walk.Walk.{Walk}
 use Rattle.cert_law.specs.Cases.{Matter}
+use Rattle.cert_law.specs.Certificates.{tree_of}
 use Rattle.cert_law.specs.Claims.{has_break_of}
 use Rattle.cert_law.specs.Known.{tree_in, ways_of}
 use Rattle.cert_law.specs.Tails.{tail_of, used_floor}
-use Rattle.cert_law.specs.Writer.{is_no_better, is_setting_of, least_break, unbroken_claim}
+use Rattle.cert_law.specs.Writer.{claims_of, is_no_better, is_setting_of, least_break, unbroken_claim}
 use Rattle.cert_law.specs.declared.known.PrefixKnown.{PrefixKnown}
 use Rattle.cert_writer.specs.Writing.{by_tables, own_claim, to_come}
 use Rattle.fux_grid.specs.declared.cell.Cell.{Cell}
-use Rattle.fux_grid.specs.Exercises.{greatest_rule}
+use Rattle.fux_grid.specs.Exercises.{columns_in, greatest_rule}
 use Rattle.fux_judge.proofs.Ends.{from_none_below}
 use Rattle.fux_judge.proofs.Unmixed.{is_of_mixed, unmixed_unbroken}
 use Rattle.fux_judge.specs.Penalties.{newly_broken}
@@ -131,6 +132,10 @@ module _ (t : Matter) (unmixed : t.exercise.mixed ≡ None) where
           else option_map_or Broken (least_break t.exercise p) (unbroken_claim t.exercise t.sheet t.head None p))
       setting true = (omega arith, omega arith)
       setting false = rule (least_break t.exercise p) refl
+
+  pub claims_of-fit : AllByRecursion IsClaim (claims_of t.exercise t.sheet t.head)
+  claims_of-fit =
+      claims-fit (tree_of t.exercise t.sheet t.head None) (own_claim t) own_fits (columns_in t.exercise) []
 
   pub to_come-fit : (walk : Walk PrefixKnown) → AllByRecursion IsClaim (to_come t walk)
   to_come-fit walk =

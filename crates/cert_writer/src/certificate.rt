@@ -10,7 +10,6 @@ ghost use Rattle.cert_law.specs.Certificates.{Holds};
 ghost use Rattle.cert_writer.specs.Heads.{found_text, head_with};
 ghost use Rattle.cert_writer.specs.Writing.{IsTask};
 ghost use Rattle.fux_port.specs.Counts.{Rose};
-ghost use Rattle.fux_port.specs.Promises.{TakesAll};
 ghost use Rattle.fux_port.specs.Written.{appended};
 
 use crate::begin::{begin, room_for_lines};
@@ -45,8 +44,9 @@ pub(crate) fn write_for_head<K: Sink>(
     ensures short { FailsShort (K.written sink.old) (K.written sink.new)
         (written_certificate ex.now sheet.now form head.now) result }
 
-    // No sink is blamed that promises each write.
-    ensures taken { TakesAll (K.serves sink.old) → result ≢ Err CertWrite.WriteFault }
+    // No sink is blamed that promises to take the whole certificate.
+    ensures taken { K.serves sink.old (length (written_certificate ex.now sheet.now form head.now))
+        → result ≢ Err CertWrite.WriteFault }
 
     // Nothing is written of a certificate that is too long, nor where there is not enough memory.
     ensures too_long { result ≡ Err CertWrite.TooLong
@@ -98,8 +98,9 @@ pub fn certify_form<K: Sink>(
     ensures cause { result ≡ Err CertWrite.WriteFault → Rose (K.faults sink.old) (K.faults sink.new) }
     ensures short { FailsShort (K.written sink.old) (K.written sink.new) (found_text space.now form best.entry) result }
 
-    // No sink is blamed that promises each write.
-    ensures taken { TakesAll (K.serves sink.old) → result ≢ Err CertWrite.WriteFault }
+    // No sink is blamed that promises to take the whole certificate.
+    ensures taken { K.serves sink.old (length (found_text space.now form best.entry))
+        → result ≢ Err CertWrite.WriteFault }
 
     // Nothing is written of a certificate that is too long, nor where there is not enough memory.
     ensures too_long { result ≡ Err CertWrite.TooLong → 1073741824 < length (found_text space.now form best.entry) }

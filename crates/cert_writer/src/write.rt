@@ -5,7 +5,6 @@ ghost use Rattle.cert_law.specs.Cases.{matter_of};
 ghost use Rattle.cert_writer.specs.Stages.{AreLines, lines_left};
 ghost use Rattle.cert_writer.specs.Writing.{IsTask};
 ghost use Rattle.fux_port.specs.Counts.{Rose};
-ghost use Rattle.fux_port.specs.Promises.{TakesAll};
 ghost use Rattle.fux_port.specs.Written.{StopsShort, appended};
 
 use crate::lines::Lines;
@@ -65,7 +64,7 @@ pub(crate) fn write_lines<K: Sink>(
     ensures cause { OnErr result (Rose (K.faults sink.old) (K.faults sink.new)) }
     ensures err { OnErr result
         (StopsShort (K.written sink.old) (K.written sink.new) (lines_left (matter_of case.now) lines.old)) }
-    ensures taken { TakesAll (K.serves sink.old) → IsOk result }
+    ensures taken { K.serves sink.old (length (lines_left (matter_of case.now) lines.old)) → IsOk result }
     ensures faults { K.faults sink.old ≤ K.faults sink.new }
 {
     let mut waiting: ArrayString<4096> = ArrayString::new();
@@ -90,7 +89,7 @@ pub(crate) fn write_parts<K: Sink>(
     ensures cause { OnErr result (Rose (K.faults sink.old) (K.faults sink.new)) }
     ensures err { OnErr result
         (StopsShort (K.written sink.old) (K.written sink.new) (text.now ++ lines_left (matter_of case.now) lines.old)) }
-    ensures taken { TakesAll (K.serves sink.old) → IsOk result }
+    ensures taken { K.serves sink.old (length (text.now ++ lines_left (matter_of case.now) lines.old)) → IsOk result }
     ensures faults { K.faults sink.old ≤ K.faults sink.new }
 {
     write_all(sink, text.as_bytes())?;

@@ -1,8 +1,11 @@
--- Bytes that are put together before they are written: where a writer stands (`stands_start`, `stands_put`), that nothing is lost at its
--- end (`stands_end`), and what was written where it stops (`stands_stop`).
-use Rattle.std.proofs.Common.{◌≡◌, ℕ, List, [], ◌++◌, Option, ap, sym, ◌∙◌, subst, arith, append_assoc, length-append}
-use Rattle.std.specs.Prelude.{Err, Ok, OnErr, Result}
+-- Bytes that are put together before they are written: where a writer stands (`stands_put`), that nothing is lost at its end
+-- (`stands_end`), what was written where it stops (`stands_stop`), and that a sink which promised all bytes promises those that
+-- wait and those to come (`room_put`).
+use Rattle.std.proofs.Common.{◌≡◌, ℕ, ◌+◌, List, [], ◌++◌, Option, length, ap, sym, ◌∙◌, subst, arith, append_assoc, length-append}
+use Rattle.std.specs.Prelude.{Err, IsOk, Ok, OnErr, Result}
+use Rattle.std.proofs.lemmas.Bool.{true≢false}
 use Rattle.std.proofs.lemmas.List.{append-nil, take-append-le}
+use Rattle.fux_port.specs.Promises.{KeepsBehind}
 use Rattle.fux_port.specs.Written.{StopsShort, appended}
 use Rattle.fux_port.proofs.Pieces.{appended-append, stops_after}
 use Rattle.fux_port.specs.Waiting.{Puts}
@@ -25,6 +28,21 @@ stands_put start old new waiting next line later whole bytes puts e stands = rec
       ∙ append_assoc waiting line later ∙ ap (λ bs. waiting ++ bs) (sym e))
       ∙ stands.whole;
 }
+
+-- the room for the bytes that wait and those to come, after a line of them was put
+pub room_put : (old new : ℕ → Type 0) (waiting next : ℕ) (line later whole : List ℕ)
+    → KeepsBehind old new (waiting + length line) next → whole ≡ line ++ later
+    → old (waiting + length whole) → new (next + length later)
+room_put old new waiting next line later whole keeps e room =
+    let size : waiting + length whole ≡ waiting + length line + length later =
+    omega (arith, ap length e, length-append line later) in
+    keeps (length later) (subst old size room)
+
+-- room for two texts is room for the first, whatever it is called, and for the other beyond it
+pub room_split : (serves : ℕ → Type 0) (first bytes next : List ℕ) → bytes ≡ first → serves (length (first ++ next))
+    → serves (length bytes + length next)
+room_split serves first bytes next same room =
+    subst serves (length-append first next ∙ ap (λ bs. length bs + length next) (sym same)) room
 
 -- a write that stopped short is one of more bytes
 pub stops_more : (old new : Option (List ℕ)) (first next : List ℕ) → StopsShort old new first
@@ -51,6 +69,10 @@ stands_stop start told new waiting later bytes stands stop =
     (stops_more start new (stands.done ++ waiting) later
     (stops_after start new stands.done waiting
     (subst (λ (t : Option (List ℕ)). StopsShort t new waiting) stands.told stop)))
+
+-- a call that fails didn't go well
+pub not_ok : {X E : Type 0} (result : Result X E) (e : E) → result ≡ Err e → IsOk result → ⊥
+not_ok result e is ok = true≢false (sym (rw is at ok))
 
 -- what holds where a call fails
 pub with_err : {X E : Type 0} (result : Result X E) (P : Type 0) → P → OnErr result P

@@ -62,8 +62,9 @@ pub fn write_all<K: Sink>(sink: &mut K, bytes: &[u8]) -> Result<(), Failed>
     ensures cause { OnErr result (Rose (K.faults sink.old) (K.faults sink.new)) }
     ensures err { OnErr result (StopsShort (K.written sink.old) (K.written sink.new) bytes.now) }
 
-    // No fault is blamed on a sink that promises to take them all.
+    // No fault is blamed on a sink that promises to take them all, nor on one that promises more.
     ensures served { K.serves sink.old (length bytes.now) → IsOk result }
+    ensures beyond { (more : ℕ) → K.serves sink.old (length bytes.now + more) → IsOk result }
     ensures serving { OnOk result (KeepsRoom (K.serves sink.old) (K.serves sink.new) (length bytes.now)) }
 
     ensures faults { K.faults sink.old ≤ K.faults sink.new }

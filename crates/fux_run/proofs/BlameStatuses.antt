@@ -5,7 +5,7 @@ use Rattle.works.specs.declared.complaint.Complaint.{Complaint}
 use Rattle.works.specs.declared.complaint.Complaint.TheVariants.{Usage, Refused, Unreadable, Unwritable, OutOfMemory}
 use Rattle.works.specs.declared.work.Verdict.{Verdict}
 use Rattle.works.specs.declared.work.Verdict.TheVariants.{Favorable, Unfavorable, Spent}
-use Rattle.works.specs.Blame.{BlamesNoFile, BlamesNoWrite}
+use Rattle.works.specs.Blame.{BlamesNoFile}
 use Rattle.fux_run.specs.Runs.{result_status}
 use Rattle.fux_run.specs.Statuses.{code_of}
 
@@ -19,14 +19,3 @@ reads_status (Err (Refused text)) code is reads four = cc (is, four)
 reads_status (Err (Unreadable name)) code is reads four = reads
 reads_status (Err Unwritable) code is reads four = cc (is, four)
 reads_status (Err OutOfMemory) code is reads four = cc (is, four)
-
-pub writes_status : (result : Result Verdict Complaint) (code : ℕ) → code ≡ code_of (result_status result)
-    → IfErr result BlamesNoWrite → code ≢ 5
-writes_status (Ok Favorable) code is writes five = cc (is, five)
-writes_status (Ok Unfavorable) code is writes five = cc (is, five)
-writes_status (Ok Spent) code is writes five = cc (is, five)
-writes_status (Err Usage) code is writes five = cc (is, five)
-writes_status (Err (Refused text)) code is writes five = cc (is, five)
-writes_status (Err (Unreadable name)) code is writes five = cc (is, five)
-writes_status (Err Unwritable) code is writes five = writes
-writes_status (Err OutOfMemory) code is writes five = cc (is, five)

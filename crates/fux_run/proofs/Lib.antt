@@ -1,3 +1,5 @@
+pub mod AcceptedRuns
 pub mod BlameStatuses
+pub mod MakingLemmas
 pub mod RunLemmas
 pub mod SinkLemmas

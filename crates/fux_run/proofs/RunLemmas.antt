@@ -1,9 +1,8 @@
 -- What follows for the status of a run from how its command ended: one lemma for each clause of
 -- `run`.
-use Rattle.std.proofs.Common.{◌≡◌, ◌≢◌, ℕ, ◌<◌, List, [], All, Contains, Option, None, Some, Result, Ok, Err, ◌⊎◌, inl, inr, refl, sym, ◌∙◌, ap, subst, codes, arith}
+use Rattle.std.proofs.Common.{◌≡◌, ◌≢◌, ℕ, ◌<◌, List, [], All, Contains, Option, None, Some, Result, Ok, Err, ◌⊎◌, inl, inr, refl, sym, ◌∙◌, ap, subst, codes, length, arith}
 use Rattle.std.proofs.lemmas.List.Elements.{All-contains}
 use Rattle.fux_port.specs.Files.{HasFile, IsMissing}
-use Rattle.fux_port.specs.Written.{StopsShort}
 use Rattle.works.specs.declared.complaint.Complaint.{Complaint}
 use Rattle.works.specs.declared.complaint.Complaint.TheVariants.{Usage, Refused, Unreadable, Unwritable, OutOfMemory}
 use Rattle.works.specs.declared.work.Verdict.{Verdict}
@@ -14,7 +13,7 @@ use Rattle.fux_run.specs.Tellings.{complaint_status, fux_line}
 use Rattle.works.specs.Complaints.{name_text}
 use Rattle.fux_run.specs.declared.status.Status.{Status}
 use Rattle.fux_run.specs.declared.status.Status.TheVariants as status
-use Rattle.works.specs.Endings.{Ended, IsUnread, IsWritten, IsRefused, work_output}
+use Rattle.works.specs.Endings.{Ended, IsCut, IsUnread, IsWritten, IsRefused, work_output}
 use Rattle.fux_run.specs.Runs.{EndedAs, EndsAs, EndsUnread, IsDone, IsStopped, result_status, result_line}
 use Rattle.fux_run.specs.Statuses.{code_of, verdict_status}
 use Rattle.works.specs.Works.{AllHave, Files, IsReadyFor, Works}
@@ -39,24 +38,28 @@ done_is_none code OutOfMemory done is = grind arith
 done_not_stopped : (code : ℕ) → IsDone code → IsStopped code → ⊥
 done_not_stopped code done stopped = grind arith
 
+-- so many bytes could not be written
+abbrev HasCut : (ℕ → Type 0) → Type 0
+HasCut cut = (count : ℕ) × cut count
+
 -- a run whose command ended so, with its status and its line
-pub record Ran (task : Task) (files : Files) (rose cut : Type 0) (old new : Option (List ℕ))
+pub record Ran (task : Task) (files : Files) (rose : Type 0) (cut : ℕ → Type 0) (old new : Option (List ℕ))
     (result : Result Verdict Complaint)
     (code : ℕ) (Complains : List ℕ → Type 0) : Type 0 where
   pub ended : Ended task files rose cut old new result
   pub status : code ≡ code_of (result_status result)
   pub told : Complains (result_line result)
 
-module _ (task : Task) (files : Files) (rose cut : Type 0) (old new : Option (List ℕ)) (code : ℕ)
+module _ (task : Task) (files : Files) (rose : Type 0) (cut : ℕ → Type 0) (old new : Option (List ℕ)) (code : ℕ)
     (Complains : List ℕ → Type 0) where
   done : (verdict : Verdict) → Ran task files rose cut old new (Ok verdict) code Complains → IsDone code
   done verdict ran = subst IsDone (sym ran.status) (verdict_is_done verdict)
 
   pub ran_works : (result : Result Verdict Complaint) → Ran task files rose cut old new result code Complains → code ≢ 4
       → code ≢ 7
-      → Works task files (EndsAs (name_in task) code old new Complains)
+      → Works task files (EndsAs (name_in task) code cut old new Complains)
   ran_works (Ok verdict) ran read room =
-      works_so task files (IsWritten old new verdict) (EndsAs (name_in task) code old new Complains)
+      works_so task files (IsWritten old new verdict) (EndsAs (name_in task) code cut old new Complains)
       (λ work on. rw on.is (inl (
         ran.status
             ∙ ap (λ v. code_of (verdict_status v)) (sym on.verdict),
@@ -64,12 +67,12 @@ module _ (task : Task) (files : Files) (rose cut : Type 0) (old new : Option (Li
         ran.told,
       ))) ran.ended
   ran_works (Err (Refused text)) ran read room =
-      works_so task files (IsRefused (name_in task) text) (EndsAs (name_in task) code old new Complains)
+      works_so task files (IsRefused (name_in task) text) (EndsAs (name_in task) code cut old new Complains)
       (λ work on. rw on.is (inl (ran.status, ran.ended.0 ∙ sym (appended-none old), rw (← on.told) ran.told)))
       ran.ended.1
   ran_works (Err Unwritable) ran read room =
-      works_so task files (λ work. StopsShort old new (work_output work)) (EndsAs (name_in task) code old new Complains)
-      (λ work short. inr (ran.status, short, ran.told)) ran.ended.1
+      works_so task files (IsCut cut old new) (EndsAs (name_in task) code cut old new Complains)
+      (λ work part. inr (ran.status, part, ran.told)) ran.ended
   ran_works (Err (Unreadable name)) ran read room = absurd (read ran.status)
   ran_works (Err OutOfMemory) ran read room = absurd (room ran.status)
   ran_works (Err Usage) ran read room = absurd ran.ended
@@ -92,7 +95,7 @@ module _ (task : Task) (files : Files) (rose cut : Type 0) (old new : Option (Li
   ran_missing (Err (Refused text)) ran name one missing room =
       absurd (none_missing task files (IsRefused (name_in task) text) name ran.ended.1 one missing)
   ran_missing (Err Unwritable) ran name one missing room =
-      absurd (none_missing task files (λ work. StopsShort old new (work_output work)) name ran.ended.1 one missing)
+      absurd (none_missing task files (IsCut cut old new) name ran.ended one missing)
   ran_missing (Err (Unreadable file)) ran name one missing room = ran.status
   ran_missing (Err OutOfMemory) ran name one missing room = absurd (room ran.status)
   ran_missing (Err Usage) ran name one missing room = absurd ran.ended
@@ -106,7 +109,7 @@ module _ (task : Task) (files : Files) (rose cut : Type 0) (old new : Option (Li
   ran_missing_within (Err (Refused text)) ran bytes have name one missing room =
       inr (ran.status, λ ready. refused_unready task files bytes text have ran.ended.1 ready)
   ran_missing_within (Err Unwritable) ran bytes have name one missing room =
-      absurd (part_is_there task files name bytes old new have ran.ended.1 one missing)
+      absurd (part_is_there task files name bytes cut old new have ran.ended one missing)
   ran_missing_within (Err (Unreadable file)) ran bytes have name one missing room = inl ran.status
   ran_missing_within (Err OutOfMemory) ran bytes have name one missing room = absurd (room ran.status)
   ran_missing_within (Err Usage) ran bytes have name one missing room = absurd ran.ended
@@ -122,9 +125,10 @@ module _ (task : Task) (files : Files) (rose cut : Type 0) (old new : Option (Li
 
   pub ran_unwritable : (result : Result Verdict Complaint) → Ran task files rose cut old new result code Complains
       → code ≡ 5
-      → cut × Complains (fux_line (codes "cannot write"))
+      → HasCut cut × Complains (fux_line (codes "cannot write"))
   ran_unwritable (Ok verdict) ran five = absurd (done_is_none 5 Unwritable (rw five at (done verdict ran)) refl)
-  ran_unwritable (Err Unwritable) ran five = (ran.ended.0, ran.told)
+  ran_unwritable (Err Unwritable) ran five =
+      ((length (work_output ran.ended.work), ran.ended.holds.cause), ran.told)
   ran_unwritable (Err (Refused text)) ran five = cc (ran.status, five)
   ran_unwritable (Err (Unreadable name)) ran five = cc (ran.status, five)
   ran_unwritable (Err OutOfMemory) ran five = cc (ran.status, five)
@@ -155,11 +159,12 @@ module _ (task : Task) (files : Files) (rose cut : Type 0) (old new : Option (Li
 
   pub ran_complete : (result : Result Verdict Complaint) → Ran task files rose cut old new result code Complains
       → (bytes : List (List ℕ)) → AllHave files (names_in task) bytes
-      → All (λ name. (file : List ℕ) × HasFile files name file) (names_within task bytes) → (rose → ⊥) → (cut → ⊥)
+      → All (λ name. (file : List ℕ) × HasFile files name file) (names_within task bytes) → (rose → ⊥)
+      → ((count : ℕ) → cut count → ⊥)
       → IsDone code ⊎ ((code ≡ 3) ⊎ (code ≡ 7))
   ran_complete (Ok verdict) ran bytes have within reads writes = inl (done verdict ran)
   ran_complete (Err (Refused text)) ran bytes have within reads writes = inr (inl ran.status)
-  ran_complete (Err Unwritable) ran bytes have within reads writes = absurd (writes ran.ended.0)
+  ran_complete (Err Unwritable) ran bytes have within reads writes = absurd (writes (length (work_output ran.ended.work)) ran.ended.holds.cause)
   ran_complete (Err OutOfMemory) ran bytes have within reads writes = inr (inr ran.status)
   ran_complete (Err Usage) ran bytes have within reads writes = absurd ran.ended
   ran_complete (Err (Unreadable name)) ran bytes have within reads writes =
@@ -191,7 +196,7 @@ module _ (task : Task) (files : Files) (rose cut : Type 0) (old new : Option (Li
 -- ---- the same of a run on any words
 
 -- a run on words that ask for this, or for nothing, with its status and its line
-pub record RanAs (found : Option Task) (files : Files) (rose cut : Type 0) (old new : Option (List ℕ))
+pub record RanAs (found : Option Task) (files : Files) (rose : Type 0) (cut : ℕ → Type 0) (old new : Option (List ℕ))
     (result : Result Verdict Complaint)
     (code : ℕ) (Complains : List ℕ → Type 0) : Type 0 where
   pub ended : EndedAs found files rose cut old new result
@@ -208,7 +213,7 @@ code_is_small status.Unwritable = omega arith
 code_is_small status.Spent = omega arith
 code_is_small status.OutOfMemory = omega arith
 
-module _ (files : Files) (rose cut : Type 0) (old new : Option (List ℕ)) (code : ℕ) (Complains : List ℕ → Type 0) where
+module _ (files : Files) (rose : Type 0) (cut : ℕ → Type 0) (old new : Option (List ℕ)) (code : ℕ) (Complains : List ℕ → Type 0) where
   pub of_task : (found : Option Task) (task : Task) (result : Result Verdict Complaint) → found ≡ Some task
       → RanAs found files rose cut old new result code Complains → Ran task files rose cut old new result code Complains
   of_task found task result is ran = record { ended = rw is at ran.ended; status = ran.status; told = ran.told }
@@ -266,7 +271,7 @@ module _ (files : Files) (rose cut : Type 0) (old new : Option (List ℕ)) (code
 
   pub run_unwritable : (found : Option Task) (result : Result Verdict Complaint)
       → RanAs found files rose cut old new result code Complains
-      → code ≡ 5 → cut × Complains (fux_line (codes "cannot write"))
+      → code ≡ 5 → HasCut cut × Complains (fux_line (codes "cannot write"))
   run_unwritable (Some task) result ran five =
       ran_unwritable task files rose cut old new code Complains result (some task result ran) five
   run_unwritable None (Err OutOfMemory) ran five = cc (ran.status, five)

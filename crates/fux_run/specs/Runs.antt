@@ -1,6 +1,6 @@
 -- How a run ends.
 use Rattle.std.specs.Prelude.{◌≡◌, ℕ, ◌⊎◌, List, [], ◌++◌, String, Option, None, Some, Result, Ok, Err, codes}
-use Rattle.fux_port.specs.Written.{appended, StopsShort}
+use Rattle.fux_port.specs.Written.{appended}
 use Rattle.works.specs.declared.complaint.Complaint.{Complaint}
 use Rattle.works.specs.declared.complaint.Complaint.TheVariants as complaint
 use Rattle.fux_run.specs.declared.status.Status.{Status}
@@ -12,7 +12,7 @@ use Rattle.works.specs.Complaints.{refusal_text}
 use Rattle.fux_run.specs.Statuses.{code_of, verdict_status}
 use Rattle.works.specs.Texts.{Work}
 use Rattle.works.specs.Works.{Files}
-use Rattle.works.specs.Endings.{Ended, IsUnreadOf, work_output}
+use Rattle.works.specs.Endings.{Ended, IsCut, IsUnreadOf, work_output}
 
 -- the status of work
 abbrev pub work_status : Work → Status
@@ -24,13 +24,12 @@ abbrev pub work_line : List ℕ → Work → List ℕ
 work_line name (Ok output) = []
 work_line name (Err refusal) = fux_line (refusal_text name refusal)
 
--- a run ends with the status of this work, having written its output and its line; or it could not
--- write the output, wrote a front of it that is shorter, and says so
-abbrev pub EndsAs : List ℕ → ℕ → Option (List ℕ) → Option (List ℕ) → (List ℕ → Type 0) → Work → Type 0
-EndsAs name code old new Complains work =
+-- a run ends with the status of this work, having written its output and its line; or so many bytes
+-- could not be written, and it wrote a front of them that is shorter, and says so
+abbrev pub EndsAs : List ℕ → ℕ → (ℕ → Type 0) → Option (List ℕ) → Option (List ℕ) → (List ℕ → Type 0) → Work → Type 0
+EndsAs name code Cut old new Complains work =
     ((code ≡ code_of (work_status work)) × (new ≡ appended old (work_output work)) × Complains (work_line name work))
-    ⊎ ((code ≡ code_of Unwritable) × StopsShort old new (work_output work)
-    × Complains (fux_line (codes "cannot write")))
+    ⊎ ((code ≡ code_of Unwritable) × IsCut Cut old new work × Complains (fux_line (codes "cannot write")))
 
 -- a run ends as one whose file cannot be read
 pub record EndsUnread (task : Task) (files : Files) (rose : Type 0) (Complains : List ℕ → Type 0) : Type 0 where
@@ -54,13 +53,13 @@ IsNoTask (Err complaint.OutOfMemory) = Unit {0}
 IsNoTask _ = ⊥
 
 -- how a run on words that ask for this, or for nothing, ended
-abbrev pub EndedAs : Option Task → Files → Type 0 → Type 0 → Option (List ℕ) → Option (List ℕ)
+abbrev pub EndedAs : Option Task → Files → Type 0 → (ℕ → Type 0) → Option (List ℕ) → Option (List ℕ)
     → Result Verdict Complaint → Type 0
-EndedAs None files rose cut old new result = (new ≡ old) × IsNoTask result
-EndedAs (Some task) files rose cut old new result = Ended task files rose cut old new result
+EndedAs None files rose Cut old new result = (new ≡ old) × IsNoTask result
+EndedAs (Some task) files rose Cut old new result = Ended task files rose Cut old new result
 
 -- how a run on these words ended
-abbrev pub EndedBy : {Y : Type 0} → List (String Y) → Files → Type 0 → Type 0 → Option (List ℕ) → Option (List ℕ)
+abbrev pub EndedBy : {Y : Type 0} → List (String Y) → Files → Type 0 → (ℕ → Type 0) → Option (List ℕ) → Option (List ℕ)
     → Result Verdict Complaint → Type 0
 EndedBy words = EndedAs (asked (texts words))
 

@@ -1,8 +1,7 @@
 //! The work of a command on its files.
 
 ghost use Rattle.std.specs.Prelude.{◌≡◌, IfErr};
-ghost use Rattle.fux_port.specs.Promises.{TakesAll};
-ghost use Rattle.works.specs.Blame.{BlamesNoFile, BlamesNoWrite, ServesTask};
+ghost use Rattle.works.specs.Blame.{BlamesNoFile, ServesTask};
 ghost use Rattle.command_words.specs.Commands.{HasHead, HasMidiHead, making_task, task_of};
 ghost use Rattle.works.specs.Endings.{Ended, EndsOn};
 
@@ -21,11 +20,10 @@ pub fn perform<'a, F: Shelf, K: Sink, R: Threads + Sync>(
     out: &mut K,
 ) -> Result<Verdict, Complaint<'a>>
     requires { HasHead command }
-    ensures ended { EndsOn F.files F.faults K.written K.faults (Ended (task_of command.entry))
+    ensures ended { EndsOn F.files F.faults K.written K.faults K.serves (Ended (task_of command.entry))
         shelf.old shelf.new out.old out.new result }
     ensures served { ServesTask (F.serves shelf.old) (F.files shelf.old) (task_of command.entry)
         → IfErr result BlamesNoFile }
-    ensures taken { TakesAll (K.serves out.old) → IfErr result BlamesNoWrite }
     ensures files { F.files shelf.new ≡ F.files shelf.old }
 {
     match command {
@@ -53,11 +51,10 @@ fn perform_making<'a, F: Shelf, K: Sink, R: Threads + Sync>(
     out: &mut K,
 ) -> Result<Verdict, Complaint<'a>>
     requires { HasMidiHead making }
-    ensures ended { EndsOn F.files F.faults K.written K.faults (Ended (making_task making.entry))
+    ensures ended { EndsOn F.files F.faults K.written K.faults K.serves (Ended (making_task making.entry))
         shelf.old shelf.new out.old out.new result }
     ensures served { ServesTask (F.serves shelf.old) (F.files shelf.old) (making_task making.entry)
         → IfErr result BlamesNoFile }
-    ensures taken { TakesAll (K.serves out.old) → IfErr result BlamesNoWrite }
     ensures files { F.files shelf.new ≡ F.files shelf.old }
 {
     let output = make(rt, alloc, making, shelf)?;

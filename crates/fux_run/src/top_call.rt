@@ -3,8 +3,8 @@
 ghost use Rattle.std.specs.Prelude.{◌≡◌, ◌≢◌, ℕ, ◌<◌, ◌⊎◌, Contains, List, None, Some, IfErr, codes};
 ghost use Rattle.fux_port.specs.Counts.{Rose};
 ghost use Rattle.fux_port.specs.Files.{IsMissing};
-ghost use Rattle.fux_port.specs.Promises.{TakesAll};
-ghost use Rattle.works.specs.Blame.{BlamesNoFile, BlamesNoWrite, ServesTask};
+ghost use Rattle.fux_port.specs.Promises.{Fails, TakesAll};
+ghost use Rattle.works.specs.Blame.{BlamesNoFile, ServesTask};
 ghost use Rattle.command_words.specs.Commands.{Task, asked, texts};
 ghost use Rattle.works.specs.TaskFiles.{name_in, names_in, names_within};
 ghost use Rattle.fux_run.specs.Tellings.{fux_line};
@@ -45,7 +45,7 @@ pub fn run<F: Shelf, K: Sink, E: Sink, R: Threads + Sync>(
     ensures unreadable { (task : Task) → asked (texts words.now) ≡ Some task
         → result ≡ code_of Status.Unreadable
         → EndsUnread task (F.files shelf.old) (Rose (F.faults shelf.old) (F.faults shelf.new))
-        (Gets E.written E.faults err.old err.new) }
+        (Gets E.written E.faults E.serves err.old err.new) }
     ensures missing { (task : Task) → asked (texts words.now) ≡ Some task
         → (name : List ℕ) → Contains (names_in task) name → IsMissing (F.files shelf.old) name
         → result ≢ code_of Status.OutOfMemory → result ≡ code_of Status.Unreadable }
@@ -61,7 +61,7 @@ pub fn run<F: Shelf, K: Sink, E: Sink, R: Threads + Sync>(
         → Rose (K.faults out.old) (K.faults out.new) }
 
     // No device is blamed that promises: each read of the command's files up to their limits, or
-    // each write.
+    // each write. By `works`, none is that promises to take as many bytes as the output has.
     ensures served { (task : Task) → asked (texts words.now) ≡ Some task
         → ServesTask (F.serves shelf.old) (F.files shelf.old) task → result ≢ code_of Status.Unreadable }
     ensures taken { TakesAll (K.serves out.old) → result ≢ code_of Status.Unwritable }
@@ -70,7 +70,7 @@ pub fn run<F: Shelf, K: Sink, E: Sink, R: Threads + Sync>(
     ensures works { (task : Task) → asked (texts words.now) ≡ Some task
         → result ≢ code_of Status.Unreadable → result ≢ code_of Status.OutOfMemory
         → Works task (F.files shelf.old) (EndsAs (name_in task) result
-        (K.written out.old) (K.written out.new) (Gets E.written E.faults err.old err.new)) }
+        (Fails K.faults K.serves out.old out.new) (K.written out.old) (K.written out.new) (Gets E.written E.faults E.serves err.old err.new)) }
 
     // Where nothing fails, the work is done or a file refused.
     ensures complete { (task : Task) → asked (texts words.now) ≡ Some task
@@ -86,11 +86,11 @@ pub fn run<F: Shelf, K: Sink, E: Sink, R: Threads + Sync>(
     // Standard error gets the line of the status, or a front of it where it fails.
     ensures silent { IsDone result → E.written err.new ≡ E.written err.old }
     ensures usage_line { result ≡ code_of Status.Usage
-        → Gets E.written E.faults err.old err.new (fux_line (codes "usage")) }
+        → Gets E.written E.faults E.serves err.old err.new (fux_line (codes "usage")) }
     ensures unwritable_line { result ≡ code_of Status.Unwritable
-        → Gets E.written E.faults err.old err.new (fux_line (codes "cannot write")) }
+        → Gets E.written E.faults E.serves err.old err.new (fux_line (codes "cannot write")) }
     ensures memory_line { result ≡ code_of Status.OutOfMemory
-        → Gets E.written E.faults err.old err.new (fux_line (codes "out of memory")) }
+        → Gets E.written E.faults E.serves err.old err.new (fux_line (codes "out of memory")) }
 
     ensures files { F.files shelf.new ≡ F.files shelf.old }
 {
@@ -106,11 +106,10 @@ fn outcome<'a, F: Shelf, K: Sink, R: Threads + Sync>(
     shelf: &mut F,
     out: &mut K,
 ) -> Result<Verdict, Complaint<'a>>
-    ensures ended { EndsOn F.files F.faults K.written K.faults (EndedBy words.entry.now)
+    ensures ended { EndsOn F.files F.faults K.written K.faults K.serves (EndedBy words.entry.now)
         shelf.old shelf.new out.old out.new result }
     ensures served { (task : Task) → asked (texts words.now) ≡ Some task
         → ServesTask (F.serves shelf.old) (F.files shelf.old) task → IfErr result BlamesNoFile }
-    ensures taken { TakesAll (K.serves out.old) → IfErr result BlamesNoWrite }
     ensures files { F.files shelf.new ≡ F.files shelf.old }
 {
     match parse(alloc, words) {
@@ -123,7 +122,7 @@ fn outcome<'a, F: Shelf, K: Sink, R: Threads + Sync>(
 /// Writes the line of a complaint, if there is one.
 fn conclude<E: Sink>(ended: &Result<Verdict, Complaint<'_>>, err: &mut E) -> Status
     ensures status { result ≡ result_status ended.now }
-    ensures line { Gets E.written E.faults err.old err.new (result_line ended.now) }
+    ensures line { Gets E.written E.faults E.serves err.old err.new (result_line ended.now) }
 {
     match ended {
         Ok(verdict) => Status::from(*verdict),

@@ -113,7 +113,7 @@ TextOf bytes said = (kind : TextKind) × (line : ℕ) × (column : ℕ) × (said
 abbrev SheetOf : List (List ℕ) → Refusal → Type 0
 SheetOf sheets said = (fault : SheetFault) × (said ≡ refusal.Sheet fault) × (sheet_said sheets ≡ Err fault)
 
-width_of : (ex : Exercise) (said : Refusal) → RefusesWidth ex said → WidthOf ex said
+pub width_of : (ex : Exercise) (said : Refusal) → RefusesWidth ex said → WidthOf ex said
 width_of ex (refusal.TooWide place count) h = (place, count, refl, h)
 width_of ex (refusal.Text kind line column) h = absurd h
 width_of ex refusal.NoSetting h = absurd h
@@ -125,7 +125,7 @@ width_of ex refusal.LongCertificate h = absurd h
 width_of ex (refusal.Sheet fault) h = absurd h
 width_of ex (refusal.Midi fault) h = absurd h
 
-text_of : (bytes : List ℕ) (said : Refusal) → RefusesText bytes said → TextOf bytes said
+pub text_of : (bytes : List ℕ) (said : Refusal) → RefusesText bytes said → TextOf bytes said
 text_of bytes (refusal.Text kind line column) h = (kind, line, column, refl, h)
 text_of bytes (refusal.TooWide place count) h = absurd h
 text_of bytes refusal.NoSetting h = absurd h
@@ -137,7 +137,7 @@ text_of bytes refusal.LongCertificate h = absurd h
 text_of bytes (refusal.Sheet fault) h = absurd h
 text_of bytes (refusal.Midi fault) h = absurd h
 
-sheet_of : (sheets : List (List ℕ)) (said : Refusal) → RefusesSheet sheets said → SheetOf sheets said
+pub sheet_of : (sheets : List (List ℕ)) (said : Refusal) → RefusesSheet sheets said → SheetOf sheets said
 sheet_of sheets (refusal.Sheet fault) h = (fault, refl, h)
 sheet_of sheets (refusal.TooWide place count) h = absurd h
 sheet_of sheets (refusal.Text kind line column) h = absurd h
@@ -149,7 +149,7 @@ sheet_of sheets (refusal.Canon line) h = absurd h
 sheet_of sheets refusal.LongCertificate h = absurd h
 sheet_of sheets (refusal.Midi fault) h = absurd h
 
-not_wide : (ex : Exercise) (place : Place) (count : ℕ) → IsNarrow ex → IsTooWide ex place count → ⊥
+pub not_wide : (ex : Exercise) (place : Place) (count : ℕ) → IsNarrow ex → IsTooWide ex place count → ⊥
 not_wide ex place count narrow wide =
     let few = narrow wide.column wide.within in omega (arith, few, wide.width, wide.wide)
 

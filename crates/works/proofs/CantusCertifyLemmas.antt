@@ -1,6 +1,6 @@
 -- What `certcantus` writes: the certificate of a head that holds (`all_written`, `part_written`,
 -- `too_long`), and what it is of the best cantus (`of_best`, `of_none`, `of_bound`).
-use Rattle.std.proofs.Common.{◌≡◌, ℕ, ◌<◌, ◌≤◌, List, None, Some, Option, Result, Ok, Err, length, inl, inr, refl}
+use Rattle.std.proofs.Common.{◌≡◌, ℕ, ◌<◌, ◌≤◌, ◌^◌, List, None, Some, Option, Result, Ok, Err, length, inl, inr, refl}
 use Rattle.std.proofs.lemmas.Bool.Decides.{leb_tells}
 use Rattle.cantus_law.specs.Certificates.{Holds}
 use Rattle.cantus_law.specs.Claims.{Said}
@@ -20,12 +20,13 @@ use Rattle.works.specs.CantusCertified.{CertifiesPlan, CertifiesSaid, IsCertific
 use Rattle.works.specs.Composed.{IsBoundText}
 use Rattle.works.specs.Endings.{Writes}
 use Rattle.works.specs.Texts.{Work}
+use Rattle.works.proofs.CertificateTexts.{cantus_acceptable, no_cantus_acceptable}
 use Rattle.works.proofs.CertifyLemmas.{writes_so}
 
 within : (bytes : List ℕ) → (1073741824 < length bytes → ⊥) → length bytes ≤ 1073741824
 within bytes short = elim (leb_tells (length bytes) 1073741824) [ inl few ↦ few.1 | inr many ↦ absurd (short many.1) ]
 
-module _ (plan : CantusPlan) (said : Said) (verdict : Verdict) (holds : Holds plan said) (cut : Type 0)
+module _ (plan : CantusPlan) (said : Said) (verdict : Verdict) (holds : Holds plan said) (cut : ℕ → Type 0)
     (old new : Option (List ℕ)) where
   its_certificate : IsCertificateOf plan said (written_certificate plan said)
   its_certificate = record { valid = written_is_valid plan said holds; written = refl }
@@ -46,57 +47,72 @@ module _ (plan : CantusPlan) (said : Said) (verdict : Verdict) (holds : Holds pl
     };
   }
 
-  pub part_written : (1073741824 < length (written_certificate plan said) → ⊥) → cut
-      → StopsShort old new (written_certificate plan said)
+  pub part_written : (1073741824 < length (written_certificate plan said) → ⊥)
+      → cut (length (written_certificate plan said)) → StopsShort old new (written_certificate plan said)
       → Writes (CertifiesSaid plan said verdict) cut old new (Err halt.Unwritable)
-  part_written short rose part = (
-    rose,
-    record {
-      work = whole;
-      made = (refl, its_certificate, within (written_certificate plan said) short);
-      holds = part;
-    },
-  )
+  part_written short why part = record {
+    work = whole;
+    made = (refl, its_certificate, within (written_certificate plan said) short);
+    holds = record { cause = why; front = part };
+  }
 
   pub too_long : 1073741824 < length (written_certificate plan said) → new ≡ old
       → Writes (CertifiesSaid plan said verdict) cut old new (Err (halt.Stopped (stop.Refused refusal.LongCertificate)))
   too_long long none = (none, (its_certificate, long))
 
 module _ (plan : CantusPlan) (budget : ℕ) where
-  of_best : (cantus : List Pitch) (penalty : ℕ) → IsBestWithin plan budget cantus penalty → (work : Work)
+  of_best : (cantus : List Pitch) (penalty : ℕ) → IsBestWithin plan budget cantus penalty → 3 ≤ plan.bars
+      → plan.bars ≤ 24 → penalty < 2 ^ 64 → (work : Work)
       → CertifiesSaid plan (Some (penalty, cantus)) Favorable work → CertifiesPlan plan budget work
-  of_best cantus penalty best (Ok output) made = record {
-    shows = rw made.0 record { cantus = cantus; penalty = penalty; best = best; certificate = made.1 };
+  of_best cantus penalty best fewest most below (Ok output) made = record {
+    shows = rw made.0 record {
+      cantus = cantus;
+      penalty = penalty;
+      best = best;
+      certificate = made.1;
+      acceptable =
+          cantus_acceptable plan cantus penalty output.bytes fewest most below best.best.lawful made.1;
+    };
     fits = λ other. made.2;
   }
-  of_best cantus penalty best (Err refusal.LongCertificate) made = record {
+  of_best cantus penalty best fewest most below (Err refusal.LongCertificate) made = record {
     verdict = Favorable;
     found = λ is. cc is;
     bytes = _;
-    shows = record { cantus = cantus; penalty = penalty; best = best; certificate = made.0 };
+    shows = record {
+      cantus = cantus;
+      penalty = penalty;
+      best = best;
+      certificate = made.0;
+      acceptable = cantus_acceptable plan cantus penalty _ fewest most below best.best.lawful made.0;
+    };
     long = made.1;
   }
-  of_best cantus penalty best (Err (refusal.TooWide place count)) made = absurd made
-  of_best cantus penalty best (Err (refusal.Text kind line column)) made = absurd made
-  of_best cantus penalty best (Err refusal.NoSetting) made = absurd made
-  of_best cantus penalty best (Err (refusal.Lesson kind line column)) made = absurd made
+  of_best cantus penalty best fewest most below (Err (refusal.TooWide place count)) made = absurd made
+  of_best cantus penalty best fewest most below (Err (refusal.Text kind line column)) made = absurd made
+  of_best cantus penalty best fewest most below (Err refusal.NoSetting) made = absurd made
+  of_best cantus penalty best fewest most below (Err (refusal.Lesson kind line column)) made = absurd made
   of_best cantus penalty best (Err (refusal.List line)) made = absurd made
-  of_best cantus penalty best (Err (refusal.Canon line)) made = absurd made
-  of_best cantus penalty best (Err (refusal.With voice)) made = absurd made
-  of_best cantus penalty best (Err (refusal.Sheet fault)) made = absurd made
-  of_best cantus penalty best (Err (refusal.Midi fault)) made = absurd made
+  of_best cantus penalty best fewest most below (Err (refusal.Canon line)) made = absurd made
+  of_best cantus penalty best fewest most below (Err (refusal.With voice)) made = absurd made
+  of_best cantus penalty best fewest most below (Err (refusal.Sheet fault)) made = absurd made
+  of_best cantus penalty best fewest most below (Err (refusal.Midi fault)) made = absurd made
 
   of_none : IsNothingWithin plan budget → (work : Work) → CertifiesSaid plan None Unfavorable work
       → CertifiesPlan plan budget work
   of_none none (Ok output) made = record {
-    shows = rw made.0 record { none = none; certificate = made.1 };
+    shows = rw made.0 record {
+      none = none;
+      certificate = made.1;
+      acceptable = no_cantus_acceptable plan output.bytes made.1;
+    };
     fits = λ other. made.2;
   }
   of_none none (Err refusal.LongCertificate) made = record {
     verdict = Unfavorable;
     found = λ is. cc is;
     bytes = _;
-    shows = record { none = none; certificate = made.0 };
+    shows = record { none = none; certificate = made.0; acceptable = no_cantus_acceptable plan _ made.0 };
     long = made.1;
   }
   of_none none (Err (refusal.TooWide place count)) made = absurd made
@@ -118,13 +134,14 @@ module _ (plan : CantusPlan) (budget : ℕ) where
   of_bound bound is (Err refusal) made = absurd made
 
   -- what is written of what a search found is written of what is asked
-  module _ (cut : Type 0) (old new : Option (List ℕ)) (result : Result Verdict Halt) where
+  module _ (cut : ℕ → Type 0) (old new : Option (List ℕ)) (result : Result Verdict Halt) where
     pub best_certified : (cantus : List Pitch) (penalty : ℕ) → IsBestWithin plan budget cantus penalty
+        → 3 ≤ plan.bars → plan.bars ≤ 24 → penalty < 2 ^ 64
         → Writes (CertifiesSaid plan (Some (penalty, cantus)) Favorable) cut old new result
         → Writes (CertifiesPlan plan budget) cut old new result
-    best_certified cantus penalty best =
+    best_certified cantus penalty best fewest most below =
         writes_so (CertifiesSaid plan (Some (penalty, cantus)) Favorable) (CertifiesPlan plan budget) cut old new result
-        (of_best cantus penalty best)
+        (of_best cantus penalty best fewest most below)
 
     pub none_certified : IsNothingWithin plan budget
         → Writes (CertifiesSaid plan None Unfavorable) cut old new result

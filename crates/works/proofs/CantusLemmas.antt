@@ -57,7 +57,7 @@ sheet_alone_unread wanted sheet budget files rose complaint =
     alone_unread_of (find_cantus wanted sheet budget) sheet files rose complaint refl
 
 -- a run whose sheet can't be read ends so
-pub alone_ended : (task : Task) (sheet : Option (List ℕ)) (files : Files) (rose cut : Type 0) (old : Option (List ℕ))
+pub alone_ended : (task : Task) (sheet : Option (List ℕ)) (files : Files) (rose : Type 0) (cut : ℕ → Type 0) (old : Option (List ℕ))
     (complaint : Complaint) → names_in task ≡ as_list sheet → ReadsSheetFile files rose sheet (Err complaint)
     → Ended task files rose cut old old (Err complaint)
 alone_ended task None files rose cut old complaint only read = absurd read

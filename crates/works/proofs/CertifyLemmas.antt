@@ -1,6 +1,6 @@
 -- What `certify` writes: the certificate of a head that holds (`all_written`, `part_written`,
 -- `too_long`), and what it is of the exercise's best setting (`of_best`, `of_none`, `of_bound`).
-use Rattle.std.proofs.Common.{◌≡◌, ℕ, ◌<◌, ◌≤◌, List, [], ◌∷◌, Option, Result, Ok, Err, length, inl, inr, refl, subst, sym}
+use Rattle.std.proofs.Common.{◌≡◌, ℕ, ◌<◌, ◌≤◌, ◌^◌, List, [], ◌∷◌, Option, None, Result, Ok, Err, length, inl, inr, refl, subst, sym}
 use Rattle.std.specs.Prelude.{IfSome}
 use Rattle.std.specs.List.{AllByRecursion}
 use Rattle.std.proofs.lemmas.Bool.Decides.{leb_tells}
@@ -28,6 +28,7 @@ use Rattle.class_marker.specs.declared.one.Text.{Text as Content}
 use Rattle.command_words.specs.Commands.{Task, certify}
 use Rattle.works.specs.TaskFiles.{as_list, limit_in, name_in, names_in}
 use Rattle.works.specs.Works.{AllMayHave, AreContents, AreRead, CertifiesText, Files, Makes, Works}
+use Rattle.works.proofs.CertificateTexts.{none_acceptable, setting_acceptable}
 use Rattle.works.proofs.MakeLemmas.{have_bytes}
 use Rattle.works.specs.declared.refusal.Refusal.TheVariants as refusal
 use Rattle.works.specs.declared.work.Halt.{Halt}
@@ -36,9 +37,9 @@ use Rattle.works.specs.declared.work.Stop.{Stop}
 use Rattle.works.specs.declared.work.Stop.TheVariants as stop
 use Rattle.works.specs.declared.work.Verdict.{Verdict}
 use Rattle.works.specs.declared.work.Verdict.TheVariants.{Favorable, Unfavorable, Spent}
-use Rattle.works.specs.Certified.{Certifies, CertifiesHead, IsCertificateOf}
+use Rattle.works.specs.Certified.{Certifies, CertifiesHead, IsAcceptable, IsCertificateOf}
 use Rattle.works.specs.Composed.{IsBoundText, bound_line}
-use Rattle.works.specs.Endings.{Does, Ended, IsWritten, SaysWritten, Writes, work_output}
+use Rattle.works.specs.Endings.{Does, Ended, IsCut, IsWritten, SaysWritten, Writes}
 use Rattle.works.specs.declared.searching.Found.TheVariants as found
 use Rattle.works.specs.Searched.{IsBestFound, IsFound, IsNarrow, IsSpaceOf}
 use Rattle.works.specs.Sheets.{ReadsSheet, sheet_said}
@@ -50,7 +51,7 @@ within bytes short = elim (leb_tells (length bytes) 1073741824) [ inl few ↦ fe
 
 module _ (ex : Exercise) (sheet : Sheet) (form : Form) (head : CertHead) (verdict : Verdict) (valid : IsValid ex)
     (small : AllByRecursion IsPotential (entries_of ex sheet)) (holds : Holds ex sheet head)
-    (cut : Type 0) (old new : Option (List ℕ)) where
+    (cut : ℕ → Type 0) (old new : Option (List ℕ)) where
   stated_small : (form : Form) → IfSome (stated_in form ex sheet) (AllByRecursion IsPotential)
   stated_small First = tt
   stated_small Second = small
@@ -81,17 +82,15 @@ module _ (ex : Exercise) (sheet : Sheet) (form : Form) (head : CertHead) (verdic
     };
   }
 
-  pub part_written : (1073741824 < length (written_certificate ex sheet form head) → ⊥) → cut
+  pub part_written : (1073741824 < length (written_certificate ex sheet form head) → ⊥)
+      → cut (length (written_certificate ex sheet form head))
       → StopsShort old new (written_certificate ex sheet form head)
       → Writes (CertifiesHead ex sheet form head verdict) cut old new (Err halt.Unwritable)
-  part_written short rose part = (
-    rose,
-    record {
-      work = whole;
-      made = (refl, its_certificate, within (written_certificate ex sheet form head) short);
-      holds = part;
-    },
-  )
+  part_written short why part = record {
+    work = whole;
+    made = (refl, its_certificate, within (written_certificate ex sheet form head) short);
+    holds = record { cause = why; front = part };
+  }
 
   pub too_long : 1073741824 < length (written_certificate ex sheet form head) → new ≡ old
       → Writes (CertifiesHead ex sheet form head verdict) cut old new
@@ -99,46 +98,71 @@ module _ (ex : Exercise) (sheet : Sheet) (form : Form) (head : CertHead) (verdic
   too_long long none = (none, (its_certificate, long))
 
 -- what is written so is written of other work too, where all of the one is of the other
-pub writes_so : (Made Made' : Work → Type 0) (cut : Type 0) (old new : Option (List ℕ)) (result : Result Verdict Halt)
+pub writes_so : (Made Made' : Work → Type 0) (cut : ℕ → Type 0) (old new : Option (List ℕ)) (result : Result Verdict Halt)
     → ((work : Work) → Made work → Made' work) → Writes Made cut old new result → Writes Made' cut old new result
 writes_so Made Made' cut old new (Ok verdict) so wrote =
     record { work = wrote.work; made = so wrote.work wrote.made; holds = wrote.holds }
 writes_so Made Made' cut old new (Err (halt.Stopped (stop.Refused said))) so wrote = (wrote.0, so (Err said) wrote.1)
 writes_so Made Made' cut old new (Err (halt.Stopped stop.Memory)) so wrote = wrote
 writes_so Made Made' cut old new (Err halt.Unwritable) so wrote =
-    (wrote.0, record { work = wrote.1.work; made = so wrote.1.work wrote.1.made; holds = wrote.1.holds })
+    record { work = wrote.work; made = so wrote.work wrote.made; holds = wrote.holds }
 
-module _ (budget : ℕ) (form : Form) (sheet : Sheet) (ex : Exercise) (narrow : IsNarrow ex) where
-  pub of_best : (score : Grid) (penalty : ℕ) → IsBestFound ex (IsBestWithin ex sheet budget) score penalty → (work : Work)
+module _ (budget : ℕ) (form : Form) (sheet : Sheet) (ex : Exercise) (valid : IsValid ex) (unmixed : ex.mixed ≡ None)
+    (narrow : IsNarrow ex) where
+  its_text : (score : Grid) (penalty : ℕ) → IsBestFound ex (IsBestWithin ex sheet budget) score penalty
+      → penalty < 2 ^ 64 → (bytes : List ℕ) → IsCertificateOf ex sheet form (Best penalty score) bytes
+      → IsAcceptable ex sheet (Best penalty score) bytes
+  its_text score penalty best below bytes =
+      setting_acceptable ex sheet form valid unmixed score penalty bytes below best.best.best.lawful best.cantus
+      best.complete
+
+  pub of_best : (score : Grid) (penalty : ℕ) → IsBestFound ex (IsBestWithin ex sheet budget) score penalty
+      → penalty < 2 ^ 64 → (work : Work)
       → CertifiesHead ex sheet form (Best penalty score) Favorable work → Certifies budget form sheet ex work
-  of_best score penalty best (Ok output) made = record {
+  of_best score penalty best below (Ok output) made = record {
     narrow = narrow;
-    shows = rw made.0 record { score = score; penalty = penalty; best = best; certificate = made.1 };
+    shows = rw made.0 record {
+      score = score;
+      penalty = penalty;
+      best = best;
+      certificate = made.1;
+      acceptable = its_text score penalty best below output.bytes made.1;
+    };
     fits = λ other. made.2;
   }
-  of_best score penalty best (Err refusal.LongCertificate) made = record {
+  of_best score penalty best below (Err refusal.LongCertificate) made = record {
     narrow = narrow;
     verdict = Favorable;
     found = λ is. cc is;
     bytes = _;
-    shows = record { score = score; penalty = penalty; best = best; certificate = made.0 };
+    shows = record {
+      score = score;
+      penalty = penalty;
+      best = best;
+      certificate = made.0;
+      acceptable = its_text score penalty best below _ made.0;
+    };
     long = made.1;
   }
-  of_best score penalty best (Err (refusal.TooWide place count)) made = absurd made
-  of_best score penalty best (Err (refusal.Text kind line column)) made = absurd made
-  of_best score penalty best (Err refusal.NoSetting) made = absurd made
-  of_best score penalty best (Err (refusal.Lesson kind line column)) made = absurd made
+  of_best score penalty best below (Err (refusal.TooWide place count)) made = absurd made
+  of_best score penalty best below (Err (refusal.Text kind line column)) made = absurd made
+  of_best score penalty best below (Err refusal.NoSetting) made = absurd made
+  of_best score penalty best below (Err (refusal.Lesson kind line column)) made = absurd made
   of_best score penalty best (Err (refusal.List line)) made = absurd made
-  of_best score penalty best (Err (refusal.Canon line)) made = absurd made
-  of_best score penalty best (Err (refusal.With voice)) made = absurd made
-  of_best score penalty best (Err (refusal.Sheet fault)) made = absurd made
-  of_best score penalty best (Err (refusal.Midi fault)) made = absurd made
+  of_best score penalty best below (Err (refusal.Canon line)) made = absurd made
+  of_best score penalty best below (Err (refusal.With voice)) made = absurd made
+  of_best score penalty best below (Err (refusal.Sheet fault)) made = absurd made
+  of_best score penalty best below (Err (refusal.Midi fault)) made = absurd made
 
   pub of_none : IsNothingWithin ex sheet budget → (work : Work)
       → CertifiesHead ex sheet form Nothing Unfavorable work → Certifies budget form sheet ex work
   of_none none (Ok output) made = record {
     narrow = narrow;
-    shows = rw made.0 record { none = none; certificate = made.1 };
+    shows = rw made.0 record {
+      none = none;
+      certificate = made.1;
+      acceptable = none_acceptable ex sheet form valid unmixed output.bytes made.1;
+    };
     fits = λ other. made.2;
   }
   of_none none (Err refusal.LongCertificate) made = record {
@@ -146,7 +170,11 @@ module _ (budget : ℕ) (form : Form) (sheet : Sheet) (ex : Exercise) (narrow : 
     verdict = Unfavorable;
     found = λ is. cc is;
     bytes = _;
-    shows = record { none = none; certificate = made.0 };
+    shows = record {
+      none = none;
+      certificate = made.0;
+      acceptable = none_acceptable ex sheet form valid unmixed _ made.0;
+    };
     long = made.1;
   }
   of_none none (Err (refusal.TooWide place count)) made = absurd made
@@ -169,8 +197,9 @@ module _ (budget : ℕ) (form : Form) (sheet : Sheet) (ex : Exercise) (narrow : 
   of_bound bound is (Err refusal) made = absurd made
 
 -- what is written of a space that was searched is written of its exercise
-module _ (budget : ℕ) (form : Form) (sheet : Sheet) (ex : Exercise) (space : Searched) where
-  pub none_certified : (cut : Type 0) (old new : Option (List ℕ)) (result : Result Verdict Halt)
+module _ (budget : ℕ) (form : Form) (sheet : Sheet) (ex : Exercise) (space : Searched) (valid : IsValid ex)
+    (unmixed : ex.mixed ≡ None) where
+  pub none_certified : (cut : ℕ → Type 0) (old new : Option (List ℕ)) (result : Result Verdict Halt)
       → IsSpaceOf ex sheet space
       → IsFound space.exercise space.sheet budget found.Nothing
       → Writes (CertifiesHead space.exercise space.sheet form Nothing Unfavorable) cut old new result
@@ -182,23 +211,23 @@ module _ (budget : ℕ) (form : Form) (sheet : Sheet) (ex : Exercise) (space : S
       → Writes (Certifies budget form sheet ex) cut old new result)
       (sym is.0)
       (λ none. writes_so (CertifiesHead ex sheet form Nothing Unfavorable) (Certifies budget form sheet ex) cut old new result
-      (of_none budget form sheet ex is.1 none))
+      (of_none budget form sheet ex valid unmixed is.1 none))
 
-  pub best_certified : (score : Grid) (penalty : ℕ) (cut : Type 0) (old new : Option (List ℕ)) (result : Result Verdict Halt)
+  pub best_certified : (score : Grid) (penalty : ℕ) (cut : ℕ → Type 0) (old new : Option (List ℕ)) (result : Result Verdict Halt)
       → IsSpaceOf ex sheet space
-      → IsFound space.exercise space.sheet budget (found.Best score penalty)
+      → IsFound space.exercise space.sheet budget (found.Best score penalty) → penalty < 2 ^ 64
       → Writes (CertifiesHead space.exercise space.sheet form (Best penalty score) Favorable) cut old new result
       → Writes (Certifies budget form sheet ex) cut old new result
-  best_certified score penalty cut old new result is =
+  best_certified score penalty cut old new result is found_so below =
       subst
       (λ s. IsFound s.exercise s.sheet budget (found.Best score penalty)
       → Writes (CertifiesHead s.exercise s.sheet form (Best penalty score) Favorable) cut old new result
       → Writes (Certifies budget form sheet ex) cut old new result)
       (sym is.0)
       (λ best. writes_so (CertifiesHead ex sheet form (Best penalty score) Favorable) (Certifies budget form sheet ex) cut old new
-      result (of_best budget form sheet ex is.1 score penalty best))
+      result (of_best budget form sheet ex valid unmixed is.1 score penalty best below)) found_so
 
-  pub bound_told : (bound : ℕ) (cut : Type 0) (old new : Option (List ℕ)) (result : Result Verdict Halt)
+  pub bound_told : (bound : ℕ) (cut : ℕ → Type 0) (old new : Option (List ℕ)) (result : Result Verdict Halt)
       → IsSpaceOf ex sheet space
       → IsFound space.exercise space.sheet budget (found.Spent bound)
       → Writes (IsBoundText bound) cut old new result → Writes (Certifies budget form sheet ex) cut old new result
@@ -208,9 +237,9 @@ module _ (budget : ℕ) (form : Form) (sheet : Sheet) (ex : Exercise) (space : S
       → Writes (Certifies budget form sheet ex) cut old new result)
       (sym is.0)
       (λ told. writes_so (IsBoundText bound) (Certifies budget form sheet ex) cut old new result
-      (of_bound budget form sheet ex is.1 bound told))
+      (of_bound budget form sheet ex valid unmixed is.1 bound told))
 
-pub bound_written : (bound : ℕ) (cut : Type 0) (old new : Option (List ℕ)) → new ≡ appended old (bound_line bound)
+pub bound_written : (bound : ℕ) (cut : ℕ → Type 0) (old new : Option (List ℕ)) → new ≡ appended old (bound_line bound)
     → Writes (IsBoundText bound) cut old new (Ok Spent)
 bound_written bound cut old new all = record {
   work = Ok record { verdict = Spent; bytes = bound_line bound };
@@ -223,16 +252,13 @@ bound_written bound cut old new all = record {
   };
 }
 
-pub bound_part : (bound : ℕ) (cut : Type 0) (old new : Option (List ℕ)) → cut → StopsShort old new (bound_line bound)
-    → Writes (IsBoundText bound) cut old new (Err halt.Unwritable)
-bound_part bound cut old new rose part = (
-  rose,
-  record {
-    work = Ok record { verdict = Spent; bytes = bound_line bound };
-    made = (refl, refl);
-    holds = part;
-  },
-)
+pub bound_part : (bound : ℕ) (cut : ℕ → Type 0) (old new : Option (List ℕ)) → cut (length (bound_line bound))
+    → StopsShort old new (bound_line bound) → Writes (IsBoundText bound) cut old new (Err halt.Unwritable)
+bound_part bound cut old new why part = record {
+  work = Ok record { verdict = Spent; bytes = bound_line bound };
+  made = (refl, refl);
+  holds = record { cause = why; front = part };
+}
 
 -- ---- how the run of it ends
 
@@ -242,7 +268,7 @@ does_works : (task : Task) (files : Files) (bytes : List (List ℕ)) (Holds : Wo
 does_works task files bytes Holds had does =
     record { bytes = bytes; had = had; work = does.work; made = does.made; holds = does.holds }
 
-pub ended_said : (task : Task) (files : Files) (rose cut : Type 0) (contents : List Content) (old new : Option (List ℕ))
+pub ended_said : (task : Task) (files : Files) (rose : Type 0) (cut : ℕ → Type 0) (contents : List Content) (old new : Option (List ℕ))
     (answer : Result Verdict Halt) (told : Result Verdict Complaint)
     → AreRead (limit_in task) files (names_in task) contents
     → ((bytes : List (List ℕ)) → AreContents (limit_in task) contents bytes
@@ -281,11 +307,10 @@ ended_said task files rose cut contents old new (Err (halt.Stopped stop.Memory))
     rw says (wrote known.bytes known.content)
 ended_said task files rose cut contents old new (Err halt.Unwritable) told read wrote says =
     let known = have_bytes (limit_in task) files (names_in task) contents read in
-    let part = wrote known.bytes known.content in
-    rw says (part.0, does_works task files known.bytes (λ work. StopsShort old new (work_output work)) known.had part.1)
+    rw says (does_works task files known.bytes (IsCut cut old new) known.had (wrote known.bytes known.content))
 
 pub of_texts : (files : Files) (name : List ℕ) (sheet : Option (List ℕ)) (budget : ℕ) (form : Form) (text : Content)
-    (weights : Option Content) (cut : Type 0)
+    (weights : Option Content) (cut : ℕ → Type 0)
     (old new : Option (List ℕ)) (answer : Result Verdict Halt)
     → ((bytes : List ℕ) (sheets : List (List ℕ)) → IsContent 65536 text bytes
     → AreContents 65536 (as_list weights) sheets
@@ -298,7 +323,7 @@ of_texts files name sheet budget form text weights cut old new answer wrote [] c
 
 -- ---- the texts of an exercise and of a sheet
 
-pub of_sheet : (budget : ℕ) (form : Form) (sheets : List (List ℕ)) (bytes : List ℕ) (ex : Exercise) (sheet : Sheet) (cut : Type 0)
+pub of_sheet : (budget : ℕ) (form : Form) (sheets : List (List ℕ)) (bytes : List ℕ) (ex : Exercise) (sheet : Sheet) (cut : ℕ → Type 0)
     (old new : Option (List ℕ)) (answer : Result Verdict Halt) → IsTheText bytes ex → sheet_said sheets ≡ Ok sheet
     → Writes (Certifies budget form sheet ex) cut old new answer
     → Writes (CertifiesText budget form sheets bytes) cut old new answer
@@ -311,7 +336,7 @@ of_sheet budget form sheets bytes ex sheet cut old new answer text said =
     })
 
 -- and where the sheet is refused, so is the whole
-pub no_sheet : (budget : ℕ) (form : Form) (sheets : List (List ℕ)) (bytes : List ℕ) (ex : Exercise) (why : Stop) (cut : Type 0)
+pub no_sheet : (budget : ℕ) (form : Form) (sheets : List (List ℕ)) (bytes : List ℕ) (ex : Exercise) (why : Stop) (cut : ℕ → Type 0)
     (old : Option (List ℕ)) (answer : Result Verdict Halt) → IsTheText bytes ex → ReadsSheet sheets (Err why)
     → answer ≡ Err (halt.Stopped why) → Writes (CertifiesText budget form sheets bytes) cut old old answer
 no_sheet budget form sheets bytes ex (stop.Refused refusal) cut old answer text cause e = rw e (

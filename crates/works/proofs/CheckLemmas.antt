@@ -36,7 +36,7 @@ use Rattle.works.specs.Classes.{RefusesList}
 use Rattle.command_words.specs.Commands.{Task, certify, certify_cantus, check, check_cantus, class_report, drill, explain, find_canon, find_cantus, fromsmf, mark_answer, on_exercise, on_mixed}
 use Rattle.works.specs.TaskFiles.{as_list, limit_in, name_in, names_in, names_listed, names_within}
 use Rattle.works.specs.Complaints.{name_text}
-use Rattle.works.specs.Endings.{IsMade, IsRefused, IsUnread, IsWritten, SaysWithin, work_output}
+use Rattle.works.specs.Endings.{IsCut, IsMade, IsRefused, IsUnread, IsWritten, SaysWithin, work_output}
 use Rattle.works.specs.declared.refusal.Refusal.{Refusal}
 use Rattle.works.specs.declared.refusal.Refusal.TheVariants as refusal
 use Rattle.works.specs.Searched.{IsNarrow, RefusesWidth}
@@ -166,12 +166,12 @@ short_is_there task files name old new bytes (Ok output) made short one missing 
     output_is_there task files name bytes output made one missing
 short_is_there task files name old new bytes (Err refusal) made short one missing = omega (arith, short.short)
 
-pub part_is_there : (task : Task) (files : Files) (name : List ℕ) (bytes : List (List ℕ)) (old new : Option (List ℕ))
-    → AllHave files (names_in task) bytes → Works task files (λ work. StopsShort old new (work_output work))
+pub part_is_there : (task : Task) (files : Files) (name : List ℕ) (bytes : List (List ℕ)) (cut : ℕ → Type 0)
+    (old new : Option (List ℕ)) → AllHave files (names_in task) bytes → Works task files (IsCut cut old new)
     → Contains (names_within task bytes) name → IsMissing files name → ⊥
-part_is_there task files name bytes old new have on one missing =
+part_is_there task files name bytes cut old new have on one missing =
     let same = only_bytes files (names_in task) bytes on.bytes have on.had in
-    short_is_there task files name old new bytes on.work (rw same at on.made) on.holds one missing
+    short_is_there task files name old new bytes on.work (rw same at on.made) on.holds.front one missing
 
 -- ---- files that are refused keep a command from reading on
 

@@ -1,3 +1,4 @@
+pub mod AcceptedLemmas
 pub mod AgreeLemmas
 pub mod AnsweredLemmas
 pub mod BestLemmas
@@ -6,13 +7,16 @@ pub mod CanonLemmas
 pub mod CantusCertifyLemmas
 pub mod CantusCheckLemmas
 pub mod CantusLemmas
+pub mod CertificateTexts
 pub mod CertifyLemmas
 pub mod ChargedLemmas
 pub mod CheckLemmas
 pub mod ClassLemmas
+pub mod Commented
 pub mod ContentLemmas
 pub mod ExplainLemmas
 pub mod MakeLemmas
 pub mod MixedLemmas
+pub mod ReadBackLemmas
 pub mod WithinLemmas
 pub mod WorkLemmas

@@ -1,10 +1,8 @@
--- What devices promise a run, and answers that blame none of them.
+-- What a shelf promises a run, and answers that blame no file.
 use Rattle.std.specs.Prelude.{ℕ, List, [], ◌∷◌}
 use Rattle.fux_port.specs.Promises.{Reads, ServesWhole}
 use Rattle.works.specs.declared.complaint.Complaint.{Complaint}
 use Rattle.works.specs.declared.complaint.Complaint.TheVariants as complaint
-use Rattle.works.specs.declared.work.Halt.{Halt}
-use Rattle.works.specs.declared.work.Halt.TheVariants as halt
 use Rattle.works.specs.declared.work.Unmade.{Unmade}
 use Rattle.works.specs.declared.work.Unmade.TheVariants as unmade
 use Rattle.works.specs.declared.classing.Unread.{Unread}
@@ -35,20 +33,10 @@ abbrev pub BlamesNoFile : Complaint → Type 0
 BlamesNoFile (complaint.Unreadable name) = ⊥
 BlamesNoFile _ = Unit {0}
 
--- a complaint doesn't say that standard output can't be written
-abbrev pub BlamesNoWrite : Complaint → Type 0
-BlamesNoWrite complaint.Unwritable = ⊥
-BlamesNoWrite _ = Unit {0}
-
 -- a command that reads within its work could read
 abbrev pub IsReadWithin : Unmade → Type 0
 IsReadWithin unmade.Unreadable = ⊥
 IsReadWithin _ = Unit {0}
-
--- a command that writes while it works could write
-abbrev pub CouldWrite : Halt → Type 0
-CouldWrite halt.Unwritable = ⊥
-CouldWrite _ = Unit {0}
 
 -- the files that a list names could be read
 abbrev pub CouldRead : Unread → Type 0

@@ -1,11 +1,14 @@
 -- What `certcantus` makes of a mode, a number of bars and a range, over a sheet of weights.
 use Rattle.std.specs.Prelude.{◌≡◌, ◌≢◌, ℕ, ◌<◌, ◌≤◌, List, None, Some, Ok, Err, length}
+use Rattle.cantus_check.specs.Topics.{cantus_subject}
 use Rattle.cantus_law.specs.Certificates.{IsCantusCertificate}
 use Rattle.cantus_law.specs.Claims.{Said}
 use Rattle.cantus_law.specs.Writer.{claims_of}
 use Rattle.cantus_space.specs.Answers.{IsBestWithin, IsLeastOver, IsNothingWithin}
 use Rattle.cantus_space.specs.declared.plan.CantusPlan.{CantusPlan}
 use Rattle.cantus_writer.specs.Writing.{written_certificate}
+use Rattle.cert_file.specs.Readings.{longest_certificate}
+use Rattle.cert_file.specs.Subjects.{IsCertificateText}
 use Rattle.fux_pitch.specs.declared.pitch.Pitch.{Pitch}
 use Rattle.command_words.specs.declared.command.Wanted.{Wanted}
 use Rattle.works.specs.declared.refusal.Refusal.{Refusal}
@@ -23,17 +26,25 @@ pub record IsCertificateOf (plan : CantusPlan) (said : Said) (bytes : List ℕ) 
   pub valid : IsCantusCertificate plan said (claims_of plan said)
   pub written : bytes ≡ written_certificate plan said
 
+-- no longer than a certificate may be, the bytes are the text of a valid one with this head, which
+-- `checkcantus` accepts
+abbrev pub IsAcceptable : CantusPlan → Said → List ℕ → Type 0
+IsAcceptable plan said bytes =
+    length bytes ≤ longest_certificate → IsCertificateText (cantus_subject plan) said bytes
+
 -- the certificate of the best cantus with its penalty, whose load is within the budget
 pub record CertifiesBest (plan : CantusPlan) (budget : ℕ) (bytes : List ℕ) : Type 0 where
   pub cantus : List Pitch
   pub penalty : ℕ
   pub best : IsBestWithin plan budget cantus penalty
   pub certificate : IsCertificateOf plan (Some (penalty, cantus)) bytes
+  pub acceptable : IsAcceptable plan (Some (penalty, cantus)) bytes
 
 -- the certificate that no cantus is lawful; all pitches that begin one are within the budget
 pub record CertifiesNone (plan : CantusPlan) (budget : ℕ) (bytes : List ℕ) : Type 0 where
   pub none : IsNothingWithin plan budget
   pub certificate : IsCertificateOf plan None bytes
+  pub acceptable : IsAcceptable plan None bytes
 
 -- what the bytes show of what is asked, by the verdict
 abbrev pub ShowsCantus : CantusPlan → ℕ → Verdict → List ℕ → Type 0

@@ -2,6 +2,8 @@
 use Rattle.std.specs.Prelude.{◌≡◌, ◌≢◌, ℕ, ◌<◌, ◌≤◌, List, Option, Ok, Err, IfSome, length}
 use Rattle.std.specs.Borrow.{Bor}
 use Rattle.std.specs.List.{AllByRecursion}
+use Rattle.cert_check.specs.Settings.{IsCertificateText}
+use Rattle.cert_file.specs.Readings.{longest_certificate}
 use Rattle.cert_law.specs.Certificates.{IsCertificate}
 use Rattle.cert_law.specs.Rests.{stated_in}
 use Rattle.cert_law.specs.Writer.{claims_of, written_certificate}
@@ -32,17 +34,24 @@ pub record IsCertificateOf (ex : Exercise) (sheet : Sheet) (form : Form) (head :
     pub small : IfSome (stated_in form ex sheet) (AllByRecursion IsPotential)
     pub written : bytes ≡ written_certificate ex sheet form head
 
+-- no longer than a certificate may be, the bytes are the text of a valid one with this head, which
+-- `check` accepts
+abbrev pub IsAcceptable : Exercise → Sheet → CertHead → List ℕ → Type 0
+IsAcceptable ex sheet head bytes = length bytes ≤ longest_certificate → IsCertificateText ex sheet head bytes
+
 -- the certificate of the best setting with its penalty, whose load is within the budget
 pub record CertifiesBest (ex : Exercise) (sheet : Sheet) (budget : ℕ) (form : Form) (bytes : List ℕ) : Type 0 where
   pub score : Grid
   pub penalty : ℕ
   pub best : IsBestFound ex (IsBestWithin ex sheet budget) score penalty
   pub certificate : IsCertificateOf ex sheet form (Best penalty score) bytes
+  pub acceptable : IsAcceptable ex sheet (Best penalty score) bytes
 
 -- the certificate that no setting is lawful; all live prefixes are within the budget
 pub record CertifiesNone (ex : Exercise) (sheet : Sheet) (budget : ℕ) (form : Form) (bytes : List ℕ) : Type 0 where
   pub none : IsNothingWithin ex sheet budget
   pub certificate : IsCertificateOf ex sheet form Nothing bytes
+  pub acceptable : IsAcceptable ex sheet Nothing bytes
 
 -- what the bytes show of an exercise, by the verdict
 abbrev pub Shows : Exercise → Sheet → ℕ → Form → Verdict → List ℕ → Type 0

@@ -1,8 +1,9 @@
 -- How a command's work on its files ends.
-use Rattle.std.specs.Prelude.{◌≡◌, ℕ, ◌⊎◌, List, [], Contains, Option, Result, Ok, Err}
+use Rattle.std.specs.Prelude.{◌≡◌, ℕ, ◌⊎◌, List, [], Contains, Option, Result, Ok, Err, length}
 use Rattle.std.specs.Borrow.{Bor}
 use Rattle.cert_text.specs.declared.answers.Form.{Form}
 use Rattle.fux_port.specs.Counts.{Rose}
+use Rattle.fux_port.specs.Promises.{Fails}
 use Rattle.fux_port.specs.Written.{appended, StopsShort}
 use Rattle.works.specs.declared.complaint.Complaint.{Complaint}
 use Rattle.works.specs.declared.complaint.Complaint.TheVariants as complaint
@@ -53,6 +54,12 @@ pub record IsWritten (old new : Option (List ℕ)) (said : Verdict) (work : Work
   pub verdict : output.verdict ≡ said
   pub written : new ≡ appended old output.bytes
 
+-- work whose output was cut: a front that is shorter was written, and this is why so many bytes could
+-- not be
+pub record IsCut (Cut : ℕ → Type 0) (old new : Option (List ℕ)) (work : Work) : Type 0 where
+  pub cause : Cut (length (work_output work))
+  pub front : StopsShort old new (work_output work)
+
 -- work that refuses a file of this name, as the text says
 pub record IsRefused (name text : List ℕ) (work : Work) : Type 0 where
   pub refusal : Refusal
@@ -75,25 +82,24 @@ pub record Does (Made Holds : Work → Type 0) : Type 0 where
 
 -- the answer of a command that writes while it works: all was written, or nothing of work that is
 -- refused, or a front of the output
-abbrev pub Writes : (Work → Type 0) → Type 0 → Option (List ℕ) → Option (List ℕ) → Result Verdict Halt → Type 0
-Writes Made cut old new (Ok verdict) = Does Made (IsWritten old new verdict)
-Writes Made cut old new (Err (Stopped (stop.Refused refusal))) = (new ≡ old) × Made (Err refusal)
-Writes Made cut old new (Err (Stopped stop.Memory)) = new ≡ old
-Writes Made cut old new (Err halt.Unwritable) = cut × Does Made (λ work. StopsShort old new (work_output work))
+abbrev pub Writes : (Work → Type 0) → (ℕ → Type 0) → Option (List ℕ) → Option (List ℕ) → Result Verdict Halt → Type 0
+Writes Made Cut old new (Ok verdict) = Does Made (IsWritten old new verdict)
+Writes Made Cut old new (Err (Stopped (stop.Refused refusal))) = (new ≡ old) × Made (Err refusal)
+Writes Made Cut old new (Err (Stopped stop.Memory)) = new ≡ old
+Writes Made Cut old new (Err halt.Unwritable) = Does Made (IsCut Cut old new)
 
 -- how a command's work on its files ended, with the cause: what was written to standard output, and
 -- what is to be said
-abbrev pub Ended : Task → Files → Type 0 → Type 0 → Option (List ℕ) → Option (List ℕ) → Result Verdict Complaint
-    → Type 0
-Ended task files rose cut old new (Ok verdict) = Works task files (IsWritten old new verdict)
-Ended task files rose cut old new (Err (complaint.Refused text)) =
+abbrev pub Ended : Task → Files → Type 0 → (ℕ → Type 0) → Option (List ℕ) → Option (List ℕ)
+    → Result Verdict Complaint → Type 0
+Ended task files rose Cut old new (Ok verdict) = Works task files (IsWritten old new verdict)
+Ended task files rose Cut old new (Err (complaint.Refused text)) =
     (new ≡ old) × Works task files (IsRefused (name_in task) text)
-Ended task files rose cut old new (Err (complaint.Unreadable name)) =
+Ended task files rose Cut old new (Err (complaint.Unreadable name)) =
     (new ≡ old) × IsUnreadOf task files rose (name_text name)
-Ended task files rose cut old new (Err complaint.Unwritable) =
-    cut × Works task files (λ work. StopsShort old new (work_output work))
-Ended task files rose cut old new (Err complaint.OutOfMemory) = new ≡ old
-Ended task files rose cut old new (Err complaint.Usage) = ⊥
+Ended task files rose Cut old new (Err complaint.Unwritable) = Works task files (IsCut Cut old new)
+Ended task files rose Cut old new (Err complaint.OutOfMemory) = new ≡ old
+Ended task files rose Cut old new (Err complaint.Usage) = ⊥
 
 -- a complaint that says this of a refused file, where memory isn't wanting
 abbrev pub SaysRefusal : List ℕ → Complaint → Type 0
@@ -125,28 +131,30 @@ SaysWritten name (Err (Stopped stop.Memory)) told = told ≡ Err complaint.OutOf
 SaysWritten name (Err halt.Unwritable) told = told ≡ Err complaint.Unwritable
 
 -- how a run ended, by what the shelf and standard output tell before it and after it
-abbrev pub EndsOn : {F K : Type 0} → (F → Files) → (F → ℕ) → (K → Option (List ℕ)) → (K → ℕ)
-    → (Files → Type 0 → Type 0 → Option (List ℕ) → Option (List ℕ) → Result Verdict Complaint → Type 0)
+abbrev pub EndsOn : {F K : Type 0} → (F → Files) → (F → ℕ) → (K → Option (List ℕ)) → (K → ℕ) → (K → ℕ → Type 0)
+    → (Files → Type 0 → (ℕ → Type 0) → Option (List ℕ) → Option (List ℕ) → Result Verdict Complaint → Type 0)
     → F → F → K → K → Result Verdict Complaint → Type 0
-EndsOn files faults written cuts Ends shelf later out end result =
-    Ends (files shelf) (Rose (faults shelf) (faults later)) (Rose (cuts out) (cuts end)) (written out) (written end)
+EndsOn files faults written cuts takes Ends shelf later out end result =
+    Ends (files shelf) (Rose (faults shelf) (faults later)) (Fails cuts takes out end) (written out) (written end)
     result
 
 -- how `certify` on files of these names, within a budget and with a form, ended
 abbrev pub CertifyEnds : {F K : Type 0} → (F → Files) → (F → ℕ) → (K → Option (List ℕ)) → (K → ℕ)
-    → Bor (List ℕ) → Option (Bor (List ℕ)) → ℕ → Form → F → F → K → K → Result Verdict Complaint → Type 0
-CertifyEnds files faults written cuts name sheet budget form =
-    EndsOn files faults written cuts (Ended (certify name.now (sheet_named sheet) budget form))
+    → (K → ℕ → Type 0) → Bor (List ℕ) → Option (Bor (List ℕ)) → ℕ → Form → F → F → K → K
+    → Result Verdict Complaint → Type 0
+CertifyEnds files faults written cuts takes name sheet budget form =
+    EndsOn files faults written cuts takes (Ended (certify name.now (sheet_named sheet) budget form))
 
 -- the answer of a command that writes to standard output while it works, by what that tells before
 -- it and after it
-abbrev pub WritesTo : {K : Type 0} → (K → Option (List ℕ)) → (K → ℕ) → (Work → Type 0) → K → K → Result Verdict Halt
-    → Type 0
-WritesTo written faults Made old new answer =
-    Writes Made (Rose (faults old) (faults new)) (written old) (written new) answer
+abbrev pub WritesTo : {K : Type 0} → (K → Option (List ℕ)) → (K → ℕ) → (K → ℕ → Type 0) → (Work → Type 0) → K → K
+    → Result Verdict Halt → Type 0
+WritesTo written faults takes Made old new answer =
+    Writes Made (Fails faults takes old new) (written old) (written new) answer
 
 -- the answer of `certify` to the texts that were read of an exercise and of a sheet
-abbrev pub CertifiesTexts : {K : Type 0} → (K → Option (List ℕ)) → (K → ℕ) → ℕ → Form → Content → Option Content → K → K
-    → Result Verdict Halt → Type 0
-CertifiesTexts written faults budget form text weights old new answer =
-    OnTexts text weights (λ bytes sheets. WritesTo written faults (CertifiesText budget form sheets bytes) old new answer)
+abbrev pub CertifiesTexts : {K : Type 0} → (K → Option (List ℕ)) → (K → ℕ) → (K → ℕ → Type 0) → ℕ → Form → Content
+    → Option Content → K → K → Result Verdict Halt → Type 0
+CertifiesTexts written faults takes budget form text weights old new answer =
+    OnTexts text weights (λ bytes sheets.
+    WritesTo written faults takes (CertifiesText budget form sheets bytes) old new answer)

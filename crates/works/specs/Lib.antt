@@ -1,4 +1,5 @@
 pub mod Answered
+pub mod Accepted
 pub mod Blame
 pub mod CantusCertified
 pub mod CantusChecked
@@ -17,6 +18,7 @@ pub mod Listed
 pub mod Marked
 pub mod Mixed
 pub mod Played
+pub mod ReadBack
 pub mod Rendered
 pub mod Searched
 pub mod Sheets

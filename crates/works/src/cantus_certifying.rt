@@ -3,8 +3,7 @@
 ghost use Rattle.std.specs.Prelude.{◌≡◌, IfErr, ℕ, List};
 ghost use Rattle.cantus_law.specs.Certificates.{Holds};
 ghost use Rattle.cantus_writer.specs.Heads.{said_with};
-ghost use Rattle.fux_port.specs.Promises.{TakesAll};
-ghost use Rattle.works.specs.Blame.{BlamesNoFile, BlamesNoWrite, CouldWrite, ServesNames};
+ghost use Rattle.works.specs.Blame.{BlamesNoFile, ServesNames};
 ghost use Rattle.works.specs.CantusCertified.{CertifiesPlan, CertifiesSaid, MakesCantusCertificate};
 ghost use Rattle.command_words.specs.Commands.{IsWanted, certify_cantus, sheet_named};
 ghost use Rattle.works.specs.TaskFiles.{as_list};
@@ -12,7 +11,7 @@ ghost use Rattle.works.specs.Invented.{plan_of};
 ghost use Rattle.works.specs.Endings.{Ended, EndsOn, WritesTo};
 ghost use Rattle.works.specs.Works.{AreContents};
 
-use crate::certifying::put_bound;
+use crate::certifying::{penalty_fits, put_bound};
 use crate::complaint::Complaint;
 use crate::making::{read_weights, said_of};
 use crate::refusal::Refusal;
@@ -39,11 +38,10 @@ pub fn perform_cantus<'a, F: Shelf, K: Sink>(
     out: &mut K,
 ) -> Result<Verdict, Complaint<'a>>
     requires { IsWanted wanted }
-    ensures ended { EndsOn F.files F.faults K.written K.faults
+    ensures ended { EndsOn F.files F.faults K.written K.faults K.serves
         (Ended (certify_cantus wanted (sheet_named sheet.entry) budget)) shelf.old shelf.new out.old out.new result }
     ensures served { ServesNames (F.serves shelf.old) 65536 (as_list (sheet_named sheet.entry))
         → IfErr result BlamesNoFile }
-    ensures taken { TakesAll (K.serves out.old) → IfErr result BlamesNoWrite }
     ensures files { F.files shelf.new ≡ F.files shelf.old }
 {
     let weights = read_weights(alloc, shelf, sheet)?;
@@ -63,9 +61,8 @@ fn certify_over<K: Sink>(
     out: &mut K,
 ) -> Result<Verdict, Halt>
     requires { IsWanted wanted.now }
-    ensures certifies { (sheets : List (List ℕ)) → AreContents 65536 (as_list weights.now) sheets →
-        WritesTo K.written K.faults (MakesCantusCertificate wanted.now budget sheets) out.old out.new result }
-    ensures taken { TakesAll (K.serves out.old) → IfErr result CouldWrite }
+    ensures { (sheets : List (List ℕ)) → AreContents 65536 (as_list weights.now) sheets →
+        WritesTo K.written K.faults K.serves (MakesCantusCertificate wanted.now budget sheets) out.old out.new result }
 {
     let sheet = sheet_of(alloc, weights)?;
     certify(alloc, wanted, &sheet, budget, out)
@@ -81,8 +78,7 @@ fn certify<K: Sink>(
     out: &mut K,
 ) -> Result<Verdict, Halt>
     requires { IsWanted wanted.now }
-    ensures writes { WritesTo K.written K.faults (CertifiesPlan (plan_of wanted.now sheet.now) budget) out.old out.new result }
-    ensures taken { TakesAll (K.serves out.old) → IfErr result CouldWrite }
+    ensures { WritesTo K.written K.faults K.serves (CertifiesPlan (plan_of wanted.now sheet.now) budget) out.old out.new result }
 {
     let space = CantusSpace::new(wanted.mode, wanted.bars, wanted.low, wanted.high, sheet);
     let Ok(outcome) = search_quest(alloc, &space, budget) else {
@@ -93,6 +89,7 @@ fn certify<K: Sink>(
             let Ok(cantus) = cantus_of(alloc, &space, path.as_slice()) else {
                 return Err(Halt::Stopped(Stop::Memory));
             };
+            penalty_fits(value);
             let best = Some((cantus.as_slice(), value));
             put_certificate(alloc, &space, best, Verdict::Favorable, out)
         }
@@ -111,8 +108,7 @@ fn put_certificate<K: Sink>(
     out: &mut K,
 ) -> Result<Verdict, Halt>
     requires holds { Holds space.now (said_with best) }
-    ensures writes { WritesTo K.written K.faults (CertifiesSaid space.now (said_with best.entry) verdict) out.old out.new result }
-    ensures taken { TakesAll (K.serves out.old) → IfErr result CouldWrite }
+    ensures { WritesTo K.written K.faults K.serves (CertifiesSaid space.now (said_with best.entry) verdict) out.old out.new result }
 {
     match cantus_writer::certify_cantus(alloc, space, best, out) {
         Ok(()) => Ok(verdict),

@@ -1,12 +1,11 @@
 //! The command `certify`.
 
-ghost use Rattle.std.specs.Prelude.{◌≡◌, ◌∷◌, IfErr, None};
+ghost use Rattle.std.specs.Prelude.{◌≡◌, ◌<◌, ◌^◌, ◌∷◌, IfErr, None};
 ghost use Rattle.cert_law.specs.Certificates.{Holds};
 ghost use Rattle.cert_writer.specs.Heads.{head_with};
 ghost use Rattle.fux_grid.specs.Exercises.{IsValid};
-ghost use Rattle.fux_port.specs.Promises.{TakesAll};
 ghost use Rattle.command_words.specs.Commands.{sheet_named};
-ghost use Rattle.works.specs.Blame.{BlamesNoFile, BlamesNoWrite, CouldWrite, ServesNames};
+ghost use Rattle.works.specs.Blame.{BlamesNoFile, ServesNames};
 ghost use Rattle.works.specs.Certified.{Certifies, CertifiesFound};
 ghost use Rattle.works.specs.Composed.{IsBoundText};
 ghost use Rattle.works.specs.Endings.{CertifiesTexts, CertifyEnds, WritesTo};
@@ -44,8 +43,7 @@ pub fn certify<K: Sink, R: Threads + Sync>(
 ) -> Result<Verdict, Halt>
     requires valid { IsValid exercise.now }
     requires unmixed { exercise.now.mixed ≡ None }
-    ensures writes { WritesTo K.written K.faults (Certifies budget form sheet.now exercise.now) out.old out.new result }
-    ensures taken { TakesAll (K.serves out.old) → IfErr result CouldWrite }
+    ensures { WritesTo K.written K.faults K.serves (Certifies budget form sheet.now exercise.now) out.old out.new result }
 {
     let space = space_of(rt, alloc, exercise, sheet)?;
     let Ok(found) = search(alloc, &space, budget) else {
@@ -53,6 +51,7 @@ pub fn certify<K: Sink, R: Threads + Sync>(
     };
     match found {
         Found::Best { score, penalty } => {
+            penalty_fits(penalty);
             put_certificate(
                 alloc,
                 &space,
@@ -65,6 +64,13 @@ pub fn certify<K: Sink, R: Threads + Sync>(
         Found::Nothing => put_certificate(alloc, &space, form, None, Verdict::Unfavorable, out),
         Found::Spent { bound } => put_bound(alloc, bound, out),
     }
+}
+
+/// A penalty has 64 bits, as the head of a certificate may say. It does nothing.
+pub fn penalty_fits(penalty: u64)
+    ensures { penalty < 2 ^ 64 }
+{
+    let _ = penalty;
 }
 
 /// Writes the certificate, in a form, of the best setting with its penalty, or the one that says
@@ -80,8 +86,7 @@ fn put_certificate<K: Sink>(
     requires valid { IsValid space.now.exercise }
     requires unmixed { space.now.exercise.mixed ≡ None }
     requires holds { Holds space.now.exercise space.now.sheet (head_with best) }
-    ensures writes { WritesTo K.written K.faults (CertifiesFound space.now form best.entry verdict) out.old out.new result }
-    ensures taken { TakesAll (K.serves out.old) → IfErr result CouldWrite }
+    ensures { WritesTo K.written K.faults K.serves (CertifiesFound space.now form best.entry verdict) out.old out.new result }
 {
     match certify_form(alloc, space, best, form, out) {
         Ok(()) => Ok(verdict),
@@ -93,8 +98,7 @@ fn put_certificate<K: Sink>(
 
 /// Writes the line of a bound.
 pub fn put_bound<K: Sink>(alloc: Global, bound: u64, out: &mut K) -> Result<Verdict, Halt>
-    ensures writes { WritesTo K.written K.faults (IsBoundText bound) out.old out.new result }
-    ensures taken { TakesAll (K.serves out.old) → IfErr result CouldWrite }
+    ensures { WritesTo K.written K.faults K.serves (IsBoundText bound) out.old out.new result }
 {
     let Ok(text) = bound_text(alloc, bound) else {
         return Err(Halt::Stopped(Stop::Memory));
@@ -117,11 +121,10 @@ pub fn perform_certify<'a, F: Shelf, K: Sink, R: Threads + Sync>(
     shelf: &mut F,
     out: &mut K,
 ) -> Result<Verdict, Complaint<'a>>
-    ensures ended { CertifyEnds F.files F.faults K.written K.faults name.entry sheet.entry budget form
+    ensures ended { CertifyEnds F.files F.faults K.written K.faults K.serves name.entry sheet.entry budget form
         shelf.old shelf.new out.old out.new result }
     ensures served { ServesNames (F.serves shelf.old) 65536 (name.entry.now ∷ as_list (sheet_named sheet.entry))
         → IfErr result BlamesNoFile }
-    ensures taken { TakesAll (K.serves out.old) → IfErr result BlamesNoWrite }
     ensures files { F.files shelf.new ≡ F.files shelf.old }
 {
     let text = read_content(alloc, shelf, name, LONGEST_TEXT)?;
@@ -144,8 +147,7 @@ fn certify_texts<K: Sink, R: Threads + Sync>(
     form: Form,
     out: &mut K,
 ) -> Result<Verdict, Halt>
-    ensures certifies { CertifiesTexts K.written K.faults budget form text.now weights.now out.old out.new result }
-    ensures taken { TakesAll (K.serves out.old) → IfErr result CouldWrite }
+    ensures { CertifiesTexts K.written K.faults K.serves budget form text.now weights.now out.old out.new result }
 {
     let exercise = exercise_of(alloc, text)?;
     let sheet = sheet_of(alloc, weights)?;

@@ -1,5 +1,7 @@
 //! What is proved of two commands together.
 
+ghost use Rattle.works.specs.Accepted.{CertifiedCantusIsAccepted, CertifiedIsAccepted};
+ghost use Rattle.works.specs.ReadBack.{BestIsRead, ComposedIsRead, MixedIsRead};
 ghost use Rattle.works.specs.Works.{BestEndsAsComposed, BestIsComposed};
 
 /// What `compose` and `best` make of the same files is the same, where neither tells that its
@@ -8,4 +10,19 @@ ghost use Rattle.works.specs.Works.{BestEndsAsComposed, BestIsComposed};
 pub fn best_is_composed()
     ensures same { BestIsComposed }
     ensures ends { BestEndsAsComposed }
+{}
+
+/// What `certify` writes, `check` of the same exercise accepts, and tells the penalty that was found
+/// or that none is lawful; and so does `checkcantus` with what `certcantus` writes. It does nothing.
+pub fn certified_is_accepted()
+    ensures settings { CertifiedIsAccepted }
+    ensures cantus { CertifiedCantusIsAccepted }
+{}
+
+/// What `compose`, `best` and `mixed` write of a best setting is a note text of the exercise with that
+/// setting, where it is no longer than a text may be. It does nothing.
+pub fn written_is_read()
+    ensures composed { ComposedIsRead }
+    ensures best { BestIsRead }
+    ensures mixed { MixedIsRead }
 {}

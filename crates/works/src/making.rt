@@ -4,7 +4,7 @@ ghost use Rattle.std.specs.Prelude.{◌≡◌, ◌≤◌, IfErr};
 ghost use Rattle.fux_grid.specs.Exercises.{IsValid};
 ghost use Rattle.fux_port.specs.Counts.{Rose};
 ghost use Rattle.fux_port.specs.Promises.{Keeps, ServesWhole};
-ghost use Rattle.works.specs.Blame.{BlamesNoFile, BlamesNoWrite, CouldWrite, IsReadWithin, ServesNames, ServesTask};
+ghost use Rattle.works.specs.Blame.{BlamesNoFile, IsReadWithin, ServesNames, ServesTask};
 ghost use Rattle.command_words.specs.Commands.{HasMidiHead, making_task, sheet_named};
 ghost use Rattle.works.specs.TaskFiles.{as_list};
 ghost use Rattle.works.specs.Complaints.{refusal_text};
@@ -233,7 +233,6 @@ pub fn said_within<'a>(
 pub fn refused<'a>(alloc: Global, name: &str, refusal: &Refusal) -> Complaint<'a>
     ensures says { SaysRefusal (refusal_text name.now refusal.now) result }
     ensures reads { BlamesNoFile result }
-    ensures writes { BlamesNoWrite result }
 {
     match refusal_text(alloc, name, refusal) {
         Ok(text) => Complaint::Refused { text },
@@ -249,7 +248,6 @@ pub fn said_of(
 ) -> Result<Verdict, Complaint<'static>>
     ensures says { SaysWritten name.now answer result }
     ensures reads { IfErr result BlamesNoFile }
-    ensures writes { IfErr answer CouldWrite → IfErr result BlamesNoWrite }
 {
     match answer {
         Ok(verdict) => Ok(verdict),

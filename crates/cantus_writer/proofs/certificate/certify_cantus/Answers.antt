@@ -1,5 +1,6 @@
-use Rattle.std.proofs.Common.{◌≡◌, subst}
+use Rattle.std.proofs.Common.{◌≡◌, ◌≢◌, Err, length, subst}
 use Rattle.std.specs.Prelude.{OnOk}
+use Rattle.cert_text.specs.declared.answers.CertWrite.TheVariants.{WriteFault}
 use Rattle.cantus_law.specs.Claims.{Said}
 use Rattle.cantus_law.proofs.WrittenCantus.{written_is_valid}
 use Rattle.cantus_space.specs.declared.plan.CantusPlan.{CantusPlan}
@@ -33,3 +34,13 @@ returns-clause-short g c =
     c.in-Ok.ensures.space
     (subst (λ (said : Said). FailsShort old new (written_certificate c.in-Ok.case.space said) result)
     c.in-Ok.ensures.head c.write_for_case.ensures.short)
+
+pub returns-clause-taken : goal.returns-clause-taken
+returns-clause-taken g c =
+    let serves = g.K.Sink.serves c.args.sink.now in
+    let result = c.write_for_case.result in
+    subst
+    (λ (plan : CantusPlan). serves (length (written_certificate plan (said_with c.args.best))) → result ≢ Err WriteFault)
+    c.in-Ok.ensures.space
+    (subst (λ (said : Said). serves (length (written_certificate c.in-Ok.case.space said)) → result ≢ Err WriteFault)
+    c.in-Ok.ensures.head c.write_for_case.ensures.taken)

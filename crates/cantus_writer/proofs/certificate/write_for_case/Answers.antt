@@ -1,7 +1,8 @@
-use Rattle.std.proofs.Common.{◌++◌, ℕ, List, string_bytes, ap, ◌∙◌, subst, arith}
+use Rattle.std.proofs.Common.{◌++◌, ℕ, List, length, string_bytes, ap, ◌∙◌, subst, sym, arith}
 use Rattle.cantus_writer.specs.Writing.{lines_left}
 use Rattle.cantus_writer.proofs.Certificates.{whole_text, whole_too_long, whole_within}
 use Rattle.fux_port.specs.Written.{StopsShort, appended}
+use Rattle.fux_port.proofs.Stands.{not_ok}
 use Rattle.cantus_writer.proofs.certificate.write_for_case.Goals as goal
 
 pub begin-requires-2-clause-room : goal.begin-requires-2-clause-room
@@ -45,3 +46,14 @@ returns-clause-fits g c = λ more.
     c.begin.ensures.claims c.in-Ok.ensures c.len.result c.is_within.result (c.len.ensures ∙ c.in-Ok.text.bytes.ok.0)
     c.is_within.ensures.fits c.if-not-is_within.false in
     absurd (omega (arith, more, few))
+
+pub returns-clause-taken : goal.returns-clause-taken
+returns-clause-taken g c = λ promised fault.
+    let plan = c.args.case.now.space in
+    let said = c.args.case.now.head.best in
+    let lines = lines_left plan said c.begin-2.new.walk in
+    let whole = ap (λ bs. bs ++ lines) c.as_str.ensures.value
+    ∙ whole_text plan said (string_bytes c.in-Ok.text) c.begin-2.new.walk c.begin-2.ensures.claims c.in-Ok.ensures in
+    not_ok _ _ c.in-Err.is
+    (c.write_parts.ensures.taken
+    (subst (λ (bs : List ℕ). g.K.Sink.serves c.args.sink.now (length bs)) (sym whole) promised))

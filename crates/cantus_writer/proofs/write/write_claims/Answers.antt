@@ -1,7 +1,7 @@
-use Rattle.std.proofs.Common.{◌≡◌, ◌++◌, ℕ, List, ap, sym, ◌∙◌, subst, arith}
+use Rattle.std.proofs.Common.{◌≡◌, ◌+◌, ◌++◌, ℕ, List, length, ap, sym, ◌∙◌, subst, arith}
 use Rattle.std.proofs.lemmas.Result.{on_err_weaker, on_ok_weaker}
 use Rattle.cantus_writer.specs.Writing.{claim_lines, lines_left}
-use Rattle.fux_port.proofs.Stands.{stands_end, stands_put, stands_stop, with_err}
+use Rattle.fux_port.proofs.Stands.{not_ok, room_put, stands_end, stands_put, stands_stop, with_err}
 use Rattle.fux_port.specs.Written.{StopsShort, appended}
 use Rattle.cantus_writer.proofs.write.write_claims.Goals as goal
 
@@ -20,7 +20,13 @@ loop-claim-preserved g c =
           c.in_ok-put.ensures.ok (ap claim_lines c.in-Some.ensures.claims
           ∙ ap (λ bs. bs ++ later) (sym (c.as_str.ensures.value ∙ c.write_claim.ensures))) c.loop-claim.invariant.stands;
       faults = omega (arith, c.loop-claim.invariant.faults, c.put.ensures.faults);
-      taking = λ all. c.in_ok-put.ensures.taking (c.loop-claim.invariant.taking all);
+      room = λ promised.
+          room_put (g.K.Sink.serves c.loop-claim.sink) (g.K.Sink.serves c.put.new.sink)
+          (length c.loop-claim.waiting.bytes) (length c.put.new.waiting.bytes) c.as_str.result.now later
+          (lines_left plan said c.loop-claim.walk) c.in_ok-put.ensures.taking
+          (ap claim_lines c.in-Some.ensures.claims
+          ∙ ap (λ bs. bs ++ later) (sym (c.as_str.ensures.value ∙ c.write_claim.ensures)))
+          (c.loop-claim.invariant.room promised);
     }
 
 pub returns-in_err-put-clause-err : goal.returns-in_err-put-clause-err
@@ -60,3 +66,18 @@ returns-clause-err g c =
     (lines_left plan said c.loop-claim.walk) (lines_left plan said c.args.walk.now)
     c.loop-claim.invariant.stands (subst (λ (bs : List ℕ). StopsShort told new bs) bytes stop))
     c.write_all.ensures.err
+
+pub returns-in_err-put-clause-taken : goal.returns-in_err-put-clause-taken
+returns-in_err-put-clause-taken g c = λ promised.
+    absurd (not_ok _ _ c.in_err-put.was
+    (c.put.ensures.taken (length (lines_left c.args.case.now.space c.args.case.now.head.best c.loop-claim.walk))
+    (c.loop-claim.invariant.room promised)))
+
+pub returns-clause-taken : goal.returns-clause-taken
+returns-clause-taken g c = λ promised.
+    let left = length (lines_left c.args.case.now.space c.args.case.now.head.best c.loop-claim.walk) in
+    let bytes : c.as_bytes.result.now ≡ c.loop-claim.waiting.bytes = c.as_bytes.ensures.value
+    ∙ c.as_str-2.ensures.value in
+    c.write_all.ensures.beyond left
+    (subst (λ (bs : List ℕ). g.K.Sink.serves c.loop-claim.sink (length bs + left)) (sym bytes)
+    (c.loop-claim.invariant.room promised))

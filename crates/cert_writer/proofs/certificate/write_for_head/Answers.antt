@@ -1,8 +1,9 @@
-use Rattle.std.proofs.Common.{◌++◌, ℕ, List, string_bytes, ap, ◌∙◌, subst, refl, arith}
+use Rattle.std.proofs.Common.{◌++◌, ℕ, List, length, string_bytes, ap, ◌∙◌, subst, sym, refl, arith}
 use Rattle.cert_law.specs.Cases.{Matter}
 use Rattle.cert_writer.specs.Stages.{lines_left}
 use Rattle.cert_writer.proofs.Certificates.{whole_text, whole_too_long, whole_within}
 use Rattle.fux_port.specs.Written.{StopsShort, appended}
+use Rattle.fux_port.proofs.Stands.{not_ok}
 use Rattle.cert_writer.proofs.certificate.write_for_head.Goals as goal
 
 pub is_within-requires-clause-lines : goal.is_within-requires-clause-lines
@@ -54,3 +55,13 @@ returns-clause-fits g c = λ more.
     c.len.result c.is_within.result (c.len.ensures ∙ c.in-Ok.text.bytes.ok.0) c.is_within.ensures.fits
     c.if-not-is_within.false in
     absurd (omega (arith, more, few))
+
+pub returns-clause-taken : goal.returns-clause-taken
+returns-clause-taken g c = λ promised fault.
+    let t : Matter = record { exercise = c.args.ex.now; sheet = c.args.sheet.now; head = c.args.head.now } in
+    let lines = lines_left t c.begin-2.new.lines in
+    let whole = ap (λ bs. bs ++ lines) c.as_str.ensures.value
+    ∙ whole_text t c.args.form (string_bytes c.in-Ok.text) c.begin-2.new.lines c.begin-2.ensures c.in-Ok.ensures in
+    not_ok _ _ c.in-Err.is
+    (c.write_parts.ensures.taken
+    (subst (λ (bs : List ℕ). g.K.Sink.serves c.args.sink.now (length bs)) (sym whole) promised))

@@ -1,8 +1,8 @@
-use Rattle.std.proofs.Common.{◌≡◌, ◌++◌, ℕ, List, ap, sym, ◌∙◌, subst, arith}
+use Rattle.std.proofs.Common.{◌≡◌, ◌+◌, ◌++◌, ℕ, List, length, ap, sym, ◌∙◌, subst, arith}
 use Rattle.std.proofs.lemmas.Result.{on_err_weaker, on_ok_weaker}
 use Rattle.cert_law.specs.Cases.{matter_of}
 use Rattle.cert_writer.specs.Stages.{lines_left}
-use Rattle.fux_port.proofs.Stands.{stands_end, stands_put, stands_stop, with_err}
+use Rattle.fux_port.proofs.Stands.{not_ok, room_put, stands_end, stands_put, stands_stop, with_err}
 use Rattle.fux_port.specs.Written.{StopsShort, appended}
 use Rattle.cert_writer.proofs.write.write_lines.Goals as goal
 
@@ -18,7 +18,12 @@ loop-line-preserved g c =
           (lines_left t c.args.lines.now) c.in_ok-put.ensures.ok (c.in-Some.ensures.text
           ∙ ap (λ bs. bs ++ lines_left t c.next_line.new.lines) (sym c.as_str.ensures.value)) c.loop-line.invariant.stands;
       faults = omega (arith, c.loop-line.invariant.faults, c.put.ensures.faults);
-      taking = λ all. c.in_ok-put.ensures.taking (c.loop-line.invariant.taking all);
+      room = λ promised.
+          room_put (g.K.Sink.serves c.loop-line.sink) (g.K.Sink.serves c.put.new.sink) (length c.loop-line.waiting.bytes)
+          (length c.put.new.waiting.bytes) c.as_str.result.now (lines_left t c.next_line.new.lines)
+          (lines_left t c.loop-line.lines) c.in_ok-put.ensures.taking
+          (c.in-Some.ensures.text ∙ ap (λ bs. bs ++ lines_left t c.next_line.new.lines) (sym c.as_str.ensures.value))
+          (c.loop-line.invariant.room promised);
     }
 
 pub returns-in_err-put-clause-err : goal.returns-in_err-put-clause-err
@@ -55,3 +60,18 @@ returns-clause-err g c =
     (lines_left t c.loop-line.lines) (lines_left t c.args.lines.now)
     c.loop-line.invariant.stands (subst (λ (bs : List ℕ). StopsShort told new bs) bytes stop))
     c.write_all.ensures.err
+
+pub returns-in_err-put-clause-taken : goal.returns-in_err-put-clause-taken
+returns-in_err-put-clause-taken g c = λ promised.
+    absurd (not_ok _ _ c.in_err-put.was
+    (c.put.ensures.taken (length (lines_left (matter_of c.args.case.now) c.loop-line.lines))
+    (c.loop-line.invariant.room promised)))
+
+pub returns-clause-taken : goal.returns-clause-taken
+returns-clause-taken g c = λ promised.
+    let left = length (lines_left (matter_of c.args.case.now) c.loop-line.lines) in
+    let bytes : c.as_bytes.result.now ≡ c.loop-line.waiting.bytes = c.as_bytes.ensures.value
+    ∙ c.as_str-2.ensures.value in
+    c.write_all.ensures.beyond left
+    (subst (λ (bs : List ℕ). g.K.Sink.serves c.loop-line.sink (length bs + left)) (sym bytes)
+    (c.loop-line.invariant.room promised))

@@ -1,9 +1,10 @@
-use Rattle.std.proofs.Common.{◌≡◌, ℕ, List, Option, ap, ◌∙◌, subst}
+use Rattle.std.proofs.Common.{◌≡◌, ℕ, List, Option, length, ap, ◌∙◌, subst}
 use Rattle.std.proofs.lemmas.Result.{on_err_weaker}
 use Rattle.cert_law.specs.Cases.{matter_of}
 use Rattle.cert_writer.specs.Stages.{lines_left}
 use Rattle.fux_port.specs.Written.{StopsShort, appended}
 use Rattle.fux_port.proofs.Pieces.{stops_after}
+use Rattle.fux_port.proofs.Stands.{not_ok, room_split}
 use Rattle.cert_writer.proofs.write.write_parts.Goals as goal
 
 pub returns-clause-err : goal.returns-clause-err
@@ -17,3 +18,19 @@ returns-clause-err g c =
     (λ stop. stops_after start new c.args.text.now lines
     (subst (λ (t : Option (List ℕ)). StopsShort t new lines) told stop))
     c.write_lines.ensures.err
+
+pub returns-in_err-write_all-clause-taken : goal.returns-in_err-write_all-clause-taken
+returns-in_err-write_all-clause-taken g c = λ promised.
+    let left = length (lines_left (matter_of c.args.case.now) c.args.lines.now) in
+    absurd (not_ok _ _ c.in_err-write_all.was
+    (c.write_all.ensures.beyond left
+    (room_split (g.K.Sink.serves c.args.sink.now) c.args.text.now c.as_bytes.result.now
+    (lines_left (matter_of c.args.case.now) c.args.lines.now) c.as_bytes.ensures.value promised)))
+
+pub returns-clause-taken : goal.returns-clause-taken
+returns-clause-taken g c = λ promised.
+    let left = length (lines_left (matter_of c.args.case.now) c.args.lines.now) in
+    c.write_lines.ensures.taken
+    (c.in_ok-write_all.ensures.serving left
+    (room_split (g.K.Sink.serves c.args.sink.now) c.args.text.now c.as_bytes.result.now
+    (lines_left (matter_of c.args.case.now) c.args.lines.now) c.as_bytes.ensures.value promised))

@@ -1,7 +1,8 @@
 use Rattle.fux_port.specs.Counts.{Rose}
+use Rattle.fux_port.specs.Promises.{Fails}
 use Rattle.command_words.specs.Commands.{asked, texts}
 use Rattle.fux_run.specs.Sinks.{Gets}
-use Rattle.fux_run.proofs.BlameStatuses.{reads_status, writes_status}
+use Rattle.fux_run.proofs.BlameStatuses.{reads_status}
 use Rattle.fux_run.proofs.RunLemmas.{RanAs, of_task, ran_complete, ran_missing, ran_missing_within, ran_unreadable, ran_works, run_form, run_known, run_memory_line, run_silent, run_unwritable, run_unwritten, run_usage, run_usage_line}
 use Rattle.fux_run.proofs.SinkLemmas.{gets_none}
 use Rattle.fux_run.proofs.top_call.run.Goals as goal
@@ -11,9 +12,9 @@ use Rattle.fux_run.proofs.top_call.run.Goals.{Joined-ended}
 ran : (g : _) (c : Joined-ended g)
     → RanAs (asked (texts c.args.words.now)) (g.F.Shelf.files c.args.shelf.now)
     (Rose (g.F.Shelf.faults c.args.shelf.now) (g.F.Shelf.faults c.outcome-ended.new.shelf))
-    (Rose (g.K.Sink.faults c.args.out.now) (g.K.Sink.faults c.outcome-ended.new.out))
+    (Fails g.K.Sink.faults g.K.Sink.serves c.args.out.now c.outcome-ended.new.out)
     (g.K.Sink.written c.args.out.now) (g.K.Sink.written c.outcome-ended.new.out) c.outcome-ended.result c.code.result
-    (Gets g.E.Sink.written g.E.Sink.faults c.args.err.now c.conclude.new.err)
+    (Gets g.E.Sink.written g.E.Sink.faults g.E.Sink.serves c.args.err.now c.conclude.new.err)
 ran g c = record {
   ended = c.outcome-ended.ensures.ended;
   status = rw c.conclude.ensures.status at c.code.ensures;
@@ -42,7 +43,7 @@ returns-clause-missing_within g c = λ task is bytes have name one missing room.
     (of_task _ _ _ _ _ _ _ _ task _ is (ran g c)) bytes have name one missing room
 
 pub returns-clause-unwritable : goal.returns-clause-unwritable
-returns-clause-unwritable g c = λ five. (run_unwritable _ _ _ _ _ _ _ _ _ (ran g c) five).0
+returns-clause-unwritable g c = λ five. (run_unwritable _ _ _ _ _ _ _ _ _ (ran g c) five).0.1.0
 
 pub returns-clause-works : goal.returns-clause-works
 returns-clause-works g c =
@@ -50,13 +51,15 @@ returns-clause-works g c =
 
 pub returns-clause-complete : goal.returns-clause-complete
 returns-clause-complete g c = λ task is bytes have within reads writes. ran_complete task _ _ _ _ _ _ _ _
-    (of_task _ _ _ _ _ _ _ _ task _ is (ran g c)) bytes have within reads writes
+    (of_task _ _ _ _ _ _ _ _ task _ is (ran g c)) bytes have within reads
+    (λ count fails. writes fails.0)
 
 pub returns-clause-unwritten : goal.returns-clause-unwritten
 returns-clause-unwritten g c = λ stopped. run_unwritten _ _ _ _ _ _ _ _ _ (ran g c) stopped
 
 pub returns-clause-silent : goal.returns-clause-silent
-returns-clause-silent g c = λ done. gets_none g.E.Sink.written g.E.Sink.faults c.args.err.now c.conclude.new.err
+returns-clause-silent g c = λ done. gets_none g.E.Sink.written g.E.Sink.faults
+    g.E.Sink.serves c.args.err.now c.conclude.new.err
     (run_silent _ _ _ _ _ _ _ _ _ (ran g c) done)
 
 pub returns-clause-usage_line : goal.returns-clause-usage_line
@@ -73,5 +76,5 @@ returns-clause-served g c = λ task is promised. reads_status c.outcome-ended.re
     (rw c.conclude.ensures.status at c.code.ensures) (c.outcome-ended.ensures.served task is promised)
 
 pub returns-clause-taken : goal.returns-clause-taken
-returns-clause-taken g c = λ all. writes_status c.outcome-ended.result c.code.result
-    (rw c.conclude.ensures.status at c.code.ensures) (c.outcome-ended.ensures.taken all)
+returns-clause-taken g c = λ all five.
+    let cut = (run_unwritable _ _ _ _ _ _ _ _ _ (ran g c) five).0 in cut.1.1 (all cut.0)

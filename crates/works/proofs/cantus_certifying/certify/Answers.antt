@@ -1,6 +1,6 @@
-use Rattle.std.proofs.Common.{List, sym, subst, ◌∙◌}
+use Rattle.std.proofs.Common.{◌≤◌, List, sym, subst, ◌∙◌}
 use Rattle.fux_pitch.specs.declared.pitch.Pitch.{Pitch}
-use Rattle.fux_port.specs.Counts.{Rose}
+use Rattle.fux_port.specs.Promises.{Fails}
 use Rattle.cantus_space.specs.Answers.{IsBestWithin, IsLeastOver, IsNothingWithin, LeadsToBest}
 use Rattle.cantus_space.specs.declared.plan.CantusPlan.{CantusPlan}
 use Rattle.tree_search.specs.Outcomes.{IfFound, IfSpent, OnNothing}
@@ -18,42 +18,45 @@ put_certificate-requires g c =
     (sym (c.as_slice-in-Found.ensures.value ∙ c.in-Ok-cantus_of.ensures)) own.best in
     record { holds = (best.best, sym best.charged) }
 
-pub returns-in-Ok-cantus_of-clause-writes : goal.returns-in-Ok-cantus_of-clause-writes
-returns-in-Ok-cantus_of-clause-writes g c =
+pub returns-in-Ok-cantus_of : goal.returns-in-Ok-cantus_of
+returns-in-Ok-cantus_of g c =
     let space = c.new-space.result in
     let leads = subst (λ outcome. IfFound outcome (LeadsToBest space c.args.budget)) c.in-Found.is c.in-Ok.ensures.exact.found in
     let own : LeadsToBest space c.args.budget c.as_slice.result.now c.in-Found.value = rw c.as_slice.ensures leads in
     let best = subst (λ (ps : List Pitch). IsBestWithin space c.args.budget ps c.in-Found.value)
     (sym (c.as_slice-in-Found.ensures.value ∙ c.in-Ok-cantus_of.ensures)) own.best in
     subst
-    (λ (plan : CantusPlan). WritesTo g.K.Sink.written g.K.Sink.faults (CertifiesPlan plan c.args.budget) c.args.out.now
+    (λ (plan : CantusPlan). WritesTo g.K.Sink.written g.K.Sink.faults g.K.Sink.serves (CertifiesPlan plan c.args.budget) c.args.out.now
     c.put_certificate.new.out c.put_certificate.result)
     c.new-space.ensures
     (best_certified space c.args.budget
-    (Rose (g.K.Sink.faults c.args.out.now) (g.K.Sink.faults c.put_certificate.new.out)) _ _ c.put_certificate.result
-    c.as_slice-in-Found.result.now c.in-Found.value best c.put_certificate.ensures.writes)
+    (Fails g.K.Sink.faults g.K.Sink.serves c.args.out.now c.put_certificate.new.out) _ _ c.put_certificate.result
+    c.as_slice-in-Found.result.now c.in-Found.value best
+    (subst (λ (plan : CantusPlan). 3 ≤ plan.bars) (sym c.new-space.ensures) c.requires.fewest)
+    (subst (λ (plan : CantusPlan). plan.bars ≤ 24) (sym c.new-space.ensures) c.requires.most)
+    c.penalty_fits.ensures c.put_certificate.ensures)
 
-pub returns-in-Nothing-clause-writes : goal.returns-in-Nothing-clause-writes
-returns-in-Nothing-clause-writes g c =
+pub returns-in-Nothing : goal.returns-in-Nothing
+returns-in-Nothing g c =
     let space = c.new-space.result in
     let out = c.put_certificate-in-Nothing.new.out in
     let none = subst (λ outcome. OnNothing outcome (IsNothingWithin space c.args.budget)) c.in-Nothing.is
     c.in-Ok.ensures.exact.nothing in
     subst
-    (λ (plan : CantusPlan). WritesTo g.K.Sink.written g.K.Sink.faults (CertifiesPlan plan c.args.budget) c.args.out.now out
+    (λ (plan : CantusPlan). WritesTo g.K.Sink.written g.K.Sink.faults g.K.Sink.serves (CertifiesPlan plan c.args.budget) c.args.out.now out
     c.put_certificate-in-Nothing.result)
     c.new-space.ensures
-    (none_certified space c.args.budget (Rose (g.K.Sink.faults c.args.out.now) (g.K.Sink.faults out)) _ _
-    c.put_certificate-in-Nothing.result none c.put_certificate-in-Nothing.ensures.writes)
+    (none_certified space c.args.budget (Fails g.K.Sink.faults g.K.Sink.serves c.args.out.now out) _ _
+    c.put_certificate-in-Nothing.result none c.put_certificate-in-Nothing.ensures)
 
-pub returns-in-Spent-clause-writes : goal.returns-in-Spent-clause-writes
-returns-in-Spent-clause-writes g c =
+pub returns-in-Spent : goal.returns-in-Spent
+returns-in-Spent g c =
     let space = c.new-space.result in
     let out = c.put_bound.new.out in
     let least = subst (λ outcome. IfSpent outcome (IsLeastOver space c.args.budget)) c.in-Spent.is c.in-Ok.ensures.exact.spent in
     subst
-    (λ (plan : CantusPlan). WritesTo g.K.Sink.written g.K.Sink.faults (CertifiesPlan plan c.args.budget) c.args.out.now out
+    (λ (plan : CantusPlan). WritesTo g.K.Sink.written g.K.Sink.faults g.K.Sink.serves (CertifiesPlan plan c.args.budget) c.args.out.now out
     c.put_bound.result)
     c.new-space.ensures
-    (bound_told space c.args.budget (Rose (g.K.Sink.faults c.args.out.now) (g.K.Sink.faults out)) _ _ c.put_bound.result
-    c.in-Spent.bound least c.put_bound.ensures.writes)
+    (bound_told space c.args.budget (Fails g.K.Sink.faults g.K.Sink.serves c.args.out.now out) _ _ c.put_bound.result
+    c.in-Spent.bound least c.put_bound.ensures)

@@ -1,9 +1,8 @@
 use Rattle.std.proofs.Common.{refl}
 use Rattle.std.proofs.lemmas.Result.{err_from_is_err_and}
-use Rattle.fux_port.specs.Counts.{Rose}
+use Rattle.fux_port.specs.Promises.{Fails}
 use Rattle.works.specs.TaskFiles.{as_list}
 use Rattle.command_words.specs.Commands.{certify_cantus, sheet_named}
-use Rattle.works.proofs.BlameLemmas.{sheet_writes}
 use Rattle.works.proofs.CantusLemmas.{alone_ended}
 use Rattle.works.proofs.CertifyLemmas.{ended_said}
 use Rattle.works.proofs.cantus_certifying.perform_cantus.Goals as goal
@@ -21,8 +20,8 @@ returns-clause-ended g c =
     let sheet = sheet_named c.args.sheet in
     let weights = c.in_ok-weights.weights in
     ended_said (certify_cantus c.args.wanted sheet c.args.budget) (g.F.Shelf.files c.args.shelf.now) _
-    (Rose (g.K.Sink.faults c.args.out.now) (g.K.Sink.faults c.certify_over.new.out)) (as_list weights) _ _
-    c.certify_over.result c.said_of.result c.in_ok-weights.ensures.reads c.certify_over.ensures.certifies
+    (Fails g.K.Sink.faults g.K.Sink.serves c.args.out.now c.certify_over.new.out) (as_list weights) _ _
+    c.certify_over.result c.said_of.result c.in_ok-weights.ensures.reads c.certify_over.ensures
     c.said_of.ensures.says
 
 pub returns-in_err-weights-clause-served : goal.returns-in_err-weights-clause-served
@@ -30,14 +29,5 @@ returns-in_err-weights-clause-served g c =
     let told = err_from_is_err_and c.from_residual.result c.from_residual.ensures.1 in
     rw (told.1, told.2) (λ promised. c.in_err-weights.ensures.served promised)
 
-pub returns-in_err-weights-clause-taken : goal.returns-in_err-weights-clause-taken
-returns-in_err-weights-clause-taken g c =
-    let told = err_from_is_err_and c.from_residual.result c.from_residual.ensures.1 in
-    rw (told.1, told.2) (λ _. sheet_writes _ _ (sheet_named c.args.sheet) c.in_err-weights.field-0.0
-    c.in_err-weights.ensures.reads)
-
 pub returns-clause-served : goal.returns-clause-served
 returns-clause-served g c = λ _. c.said_of.ensures.reads
-
-pub returns-clause-taken : goal.returns-clause-taken
-returns-clause-taken g c = λ all. c.said_of.ensures.writes (c.certify_over.ensures.taken all)

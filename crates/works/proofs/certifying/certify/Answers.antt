@@ -1,31 +1,34 @@
 use Rattle.std.proofs.Common.{subst}
-use Rattle.fux_port.specs.Counts.{Rose}
+use Rattle.fux_port.specs.Promises.{Fails}
 use Rattle.works.specs.Searched.{IsFound}
 use Rattle.works.proofs.CertifyLemmas.{best_certified, bound_told, none_certified}
 use Rattle.works.proofs.certifying.certify.Goals as goal
 
-pub returns-in-Best-clause-writes : goal.returns-in-Best-clause-writes
-returns-in-Best-clause-writes g c =
+pub returns-in-Best : goal.returns-in-Best
+returns-in-Best g c =
     let space = c.in_ok-space.space in
-    best_certified c.args.budget c.args.form c.args.sheet.now c.args.exercise.now space c.in-Best.score c.in-Best.penalty
-    (Rose (g.K.Sink.faults c.args.out.now) (g.K.Sink.faults c.put_certificate.new.out)) _ _ _
+    best_certified c.args.budget c.args.form c.args.sheet.now c.args.exercise.now space c.requires.valid
+    c.requires.unmixed c.in-Best.score c.in-Best.penalty
+    (Fails g.K.Sink.faults g.K.Sink.serves c.args.out.now c.put_certificate.new.out) _ _ _
     c.in_ok-space.ensures.made
-    (subst (IsFound space.exercise space.sheet c.args.budget) c.in-Best.is c.in-Ok.ensures)
-    c.put_certificate.ensures.writes
+    (subst (IsFound space.exercise space.sheet c.args.budget) c.in-Best.is c.in-Ok.ensures) c.penalty_fits.ensures
+    c.put_certificate.ensures
 
-pub returns-in-Nothing-clause-writes : goal.returns-in-Nothing-clause-writes
-returns-in-Nothing-clause-writes g c =
+pub returns-in-Nothing : goal.returns-in-Nothing
+returns-in-Nothing g c =
     let space = c.in_ok-space.space in
-    none_certified c.args.budget c.args.form c.args.sheet.now c.args.exercise.now space
-    (Rose (g.K.Sink.faults c.args.out.now) (g.K.Sink.faults c.put_certificate-in-Nothing.new.out)) _ _ _
+    none_certified c.args.budget c.args.form c.args.sheet.now c.args.exercise.now space c.requires.valid
+    c.requires.unmixed
+    (Fails g.K.Sink.faults g.K.Sink.serves c.args.out.now c.put_certificate-in-Nothing.new.out) _ _ _
     c.in_ok-space.ensures.made
     (subst (IsFound space.exercise space.sheet c.args.budget) c.in-Nothing.is c.in-Ok.ensures)
-    c.put_certificate-in-Nothing.ensures.writes
+    c.put_certificate-in-Nothing.ensures
 
-pub returns-clause-writes : goal.returns-clause-writes
-returns-clause-writes g c =
+pub returns : goal.returns
+returns g c =
     let space = c.in_ok-space.space in
-    bound_told c.args.budget c.args.form c.args.sheet.now c.args.exercise.now space c.in-Spent.bound
-    (Rose (g.K.Sink.faults c.args.out.now) (g.K.Sink.faults c.put_bound.new.out)) _ _ _ c.in_ok-space.ensures.made
+    bound_told c.args.budget c.args.form c.args.sheet.now c.args.exercise.now space c.requires.valid
+    c.requires.unmixed c.in-Spent.bound
+    (Fails g.K.Sink.faults g.K.Sink.serves c.args.out.now c.put_bound.new.out) _ _ _ c.in_ok-space.ensures.made
     (subst (IsFound space.exercise space.sheet c.args.budget) c.in-Spent.is c.in-Ok.ensures)
-    c.put_bound.ensures.writes
+    c.put_bound.ensures

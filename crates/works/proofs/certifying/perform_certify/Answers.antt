@@ -1,11 +1,12 @@
 use Rattle.std.proofs.Common.{Err, inl, refl, ◌∷◌}
 use Rattle.std.proofs.lemmas.Result.{err_from_is_err_and}
 use Rattle.fux_port.specs.Counts.{Rose}
+use Rattle.fux_port.specs.Promises.{Fails}
 use Rattle.fux_port.proofs.Rises.{rose_later}
 use Rattle.works.specs.TaskFiles.{as_list}
 use Rattle.command_words.specs.Commands.{certify, sheet_named}
 use Rattle.works.specs.Endings.{Ended}
-use Rattle.works.proofs.BlameLemmas.{names_kept, read_writes, sheet_writes}
+use Rattle.works.proofs.BlameLemmas.{names_kept}
 use Rattle.works.proofs.CertifyLemmas.{ended_said, of_texts}
 use Rattle.works.proofs.MakeLemmas.{read_same, sheet_unread}
 use Rattle.works.proofs.certifying.perform_certify.Goals as goal
@@ -23,7 +24,7 @@ returns-in_err-weights-clause-ended g c =
     65536 c.in_ok-text.text _
     (λ complaint. Ended (certify name sheet c.args.budget c.args.form) (files c.args.shelf.now)
     (Rose (faults c.args.shelf.now) (faults c.read_weights.new.shelf))
-    (Rose (g.K.Sink.faults c.args.out.now) (g.K.Sink.faults c.args.out.now)) (g.K.Sink.written c.args.out.now)
+    (Fails g.K.Sink.faults g.K.Sink.serves c.args.out.now c.args.out.now) (g.K.Sink.written c.args.out.now)
     (g.K.Sink.written c.args.out.now) (Err complaint))
     (λ file is. (refl, inl is)) refl
     c.in_ok-text.ensures.reads c.in_ok-text.ensures.files (rose_later _ _ _ c.in_ok-text.ensures.faults)
@@ -36,7 +37,7 @@ returns-clause-ended g c =
     let files = g.F.Shelf.files in
     let text = c.in_ok-text.text in
     let weights = c.in_ok-weights.weights in
-    let cut = Rose (g.K.Sink.faults c.args.out.now) (g.K.Sink.faults c.certify_texts.new.out) in
+    let cut = Fails g.K.Sink.faults g.K.Sink.serves c.args.out.now c.certify_texts.new.out in
     ended_said (certify name sheet c.args.budget c.args.form) (files c.args.shelf.now) _ cut (text ∷ as_list weights) _ _
     c.certify_texts.result c.said_of.result (
       c.in_ok-text.ensures.reads,
@@ -44,17 +45,12 @@ returns-clause-ended g c =
           c.in_ok-weights.ensures.reads,
     )
     (of_texts (files c.args.shelf.now) name sheet c.args.budget c.args.form text weights cut _ _ c.certify_texts.result
-    c.certify_texts.ensures.certifies) c.said_of.ensures.says
+    c.certify_texts.ensures) c.said_of.ensures.says
 
 pub returns-in_err-text-clause-served : goal.returns-in_err-text-clause-served
 returns-in_err-text-clause-served g c =
     let told = err_from_is_err_and c.from_residual.result c.from_residual.ensures.1 in
     rw (told.1, told.2) (λ promised. c.in_err-text.ensures.served promised.0)
-
-pub returns-in_err-text-clause-taken : goal.returns-in_err-text-clause-taken
-returns-in_err-text-clause-taken g c =
-    let told = err_from_is_err_and c.from_residual.result c.from_residual.ensures.1 in
-    rw (told.1, told.2) (λ _. read_writes 65536 _ _ c.args.name.now c.in_err-text.field-0.0 c.in_err-text.ensures.reads)
 
 pub returns-in_err-weights-clause-served : goal.returns-in_err-weights-clause-served
 returns-in_err-weights-clause-served g c =
@@ -63,14 +59,5 @@ returns-in_err-weights-clause-served g c =
     rw (told.1, told.2) (λ promised. c.in_err-weights.ensures.served (names_kept (serves c.args.shelf.now)
     (serves c.read_content.new.shelf) 65536 (as_list (sheet_named c.args.sheet)) c.in_ok-text.ensures.serving promised.1))
 
-pub returns-in_err-weights-clause-taken : goal.returns-in_err-weights-clause-taken
-returns-in_err-weights-clause-taken g c =
-    let told = err_from_is_err_and c.from_residual-in_err-weights.result c.from_residual-in_err-weights.ensures.1 in
-    rw (told.1, told.2) (λ _. sheet_writes _ _ (sheet_named c.args.sheet) c.in_err-weights.field-0.0
-    c.in_err-weights.ensures.reads)
-
 pub returns-clause-served : goal.returns-clause-served
 returns-clause-served g c = λ _. c.said_of.ensures.reads
-
-pub returns-clause-taken : goal.returns-clause-taken
-returns-clause-taken g c = λ all. c.said_of.ensures.writes (c.certify_texts.ensures.taken all)

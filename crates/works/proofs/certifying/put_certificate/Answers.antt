@@ -1,37 +1,34 @@
 use Rattle.std.proofs.Common.{Err, ap, inl, inr, ◌∙◌}
-use Rattle.fux_port.specs.Counts.{Rose}
+use Rattle.fux_port.specs.Promises.{Fails}
 use Rattle.cert_writer.specs.Heads.{head_with}
 use Rattle.works.proofs.CertifyLemmas.{all_written, part_written, too_long}
 use Rattle.works.proofs.certifying.put_certificate.Goals as goal
 
-pub returns-in-Ok-clause-writes : goal.returns-in-Ok-clause-writes
-returns-in-Ok-clause-writes g c =
+pub returns-in-Ok : goal.returns-in-Ok
+returns-in-Ok g c =
     let space = c.args.space.now in
     all_written space.exercise space.sheet c.args.form (head_with c.args.best) c.args.verdict c.requires.valid
     c.certify_form.ensures.small c.requires.holds
-    (Rose (g.K.Sink.faults c.args.out.now) (g.K.Sink.faults c.certify_form.new.sink)) _ _
+    (Fails g.K.Sink.faults g.K.Sink.serves c.args.out.now c.certify_form.new.sink) _ _
     (λ long. elim (c.certify_form.ensures.fits long) [ inl is ↦ cc (is, c.in-Ok.is) | inr is ↦ cc (is, c.in-Ok.is) ])
     c.in-Ok.ensures.ok
 
-pub returns-in-Err-WriteFault-clause-writes : goal.returns-in-Err-WriteFault-clause-writes
-returns-in-Err-WriteFault-clause-writes g c =
+pub returns-in-Err-WriteFault : goal.returns-in-Err-WriteFault
+returns-in-Err-WriteFault g c =
     let space = c.args.space.now in
     let fault = c.in-Err-WriteFault.is ∙ ap Err c.in-Err-WriteFault.field-0-is in
     part_written space.exercise space.sheet c.args.form (head_with c.args.best) c.args.verdict c.requires.valid
     c.certify_form.ensures.small c.requires.holds
-    (Rose (g.K.Sink.faults c.args.out.now) (g.K.Sink.faults c.certify_form.new.sink)) _ _
+    (Fails g.K.Sink.faults g.K.Sink.serves c.args.out.now c.certify_form.new.sink) _ _
     (λ long. elim (c.certify_form.ensures.fits long) [ inl is ↦ cc (is, fault) | inr is ↦ cc (is, fault) ])
-    (c.certify_form.ensures.cause fault) (c.certify_form.ensures.short fault)
+    (c.certify_form.ensures.cause fault, λ promised. c.certify_form.ensures.taken promised fault)
+    (c.certify_form.ensures.short fault)
 
-pub returns-in-Err-TooLong-clause-writes : goal.returns-in-Err-TooLong-clause-writes
-returns-in-Err-TooLong-clause-writes g c =
+pub returns-in-Err-TooLong : goal.returns-in-Err-TooLong
+returns-in-Err-TooLong g c =
     let space = c.args.space.now in
     let fault = c.in-Err-TooLong.is ∙ ap Err c.in-Err-TooLong.field-0-is in
     too_long space.exercise space.sheet c.args.form (head_with c.args.best) c.args.verdict c.requires.valid
     c.certify_form.ensures.small c.requires.holds
-    (Rose (g.K.Sink.faults c.args.out.now) (g.K.Sink.faults c.certify_form.new.sink)) _ _
+    (Fails g.K.Sink.faults g.K.Sink.serves c.args.out.now c.certify_form.new.sink) _ _
     (c.certify_form.ensures.too_long fault) (c.certify_form.ensures.unwritten (inl fault))
-
-pub returns-in-Err-WriteFault-clause-taken : goal.returns-in-Err-WriteFault-clause-taken
-returns-in-Err-WriteFault-clause-taken g c = λ all.
-    c.certify_form.ensures.taken all (c.in-Err-WriteFault.is ∙ ap Err c.in-Err-WriteFault.field-0-is)

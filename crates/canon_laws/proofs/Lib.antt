@@ -1,0 +1,3 @@
+pub mod BarColumns
+pub mod BookLemmas
+pub mod HeldColumns
