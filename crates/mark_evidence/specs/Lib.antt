@@ -1,6 +1,7 @@
 pub mod Asked
 pub mod Evidence
 pub mod Explained
+pub mod Explanations
 pub mod Intervals
 pub mod Notes
 pub mod Sentences

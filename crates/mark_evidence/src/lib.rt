@@ -6,6 +6,7 @@ mod asking;
 mod columns;
 mod evidence;
 mod explaining;
+mod explanation;
 mod far;
 mod given;
 mod intervals;
@@ -19,3 +20,4 @@ mod words;
 
 pub use asking::asked;
 pub use explaining::explained;
+pub use explanation::{Explanation, explain};

@@ -1,0 +1,31 @@
+-- What explains an exercise.
+use Rattle.std.specs.Prelude.{◌≡◌, false, List, length, nat_lt, string_bytes, MatchOption}
+use Rattle.fux_grid.specs.declared.cell.Cell.{Cell}
+use Rattle.fux_grid.specs.declared.exercise.Exercise.{Exercise}
+use Rattle.score_marker.specs.declared.mark.Mark.{Mark}
+use Rattle.score_marker.specs.Marks.{AreMarks}
+use Rattle.mark_evidence.specs.declared.explanation.Explanation.{Explanation}
+use Rattle.mark_evidence.specs.Asked.{asked_text}
+use Rattle.mark_evidence.specs.Explained.{explained_marks}
+
+-- a text explains these marks of a list of columns
+pub record AreExplained (ex : Exercise) (s : List (List Cell)) (marks : List Mark)
+    (told : Explanation) : Type 0 where
+  pub text : string_bytes told.text ≡ explained_marks ex s marks
+  pub has_mark : told.has_mark ≡ nat_lt 0 (length marks)
+
+-- it explains the marks of a list of columns
+pub record ExplainsMarks (ex : Exercise) (s : List (List Cell)) (told : Explanation) : Type 0 where
+  pub marks : List Mark
+  pub exact : AreMarks ex s marks
+  pub explained : AreExplained ex s marks told
+
+-- it says what an exercise asks
+pub record IsAsked (ex : Exercise) (told : Explanation) : Type 0 where
+  pub text : string_bytes told.text ≡ asked_text ex
+  pub has_mark : told.has_mark ≡ false
+
+-- it explains an exercise: the marks of its setting, or what it asks where it has none
+abbrev pub ExplainsExercise : Exercise → Explanation → Type 0
+ExplainsExercise ex told =
+    MatchOption ex.setting (IsAsked ex told) (λ score. ExplainsMarks ex score.columns told)
