@@ -283,12 +283,12 @@ impl Part {
             | Part::Bars
             | Part::Low
             | Part::High => Kind::Word,
-            Part::Sheet | Part::Budget | Part::Form | Part::MayWith | Part::Against | Part::Wrap =>
-                Kind::Option,
+            Part::Sheet
             | Part::Budget
             | Part::Form
             | Part::MayWith
             | Part::Against
+            | Part::Wrap
             | Part::Lesson => Kind::Option,
             Part::With | Part::Mode | Part::Species | Part::Voice | Part::Cantus => Kind::Needed,
             Part::Penalty | Part::TopFirst | Part::BySharper => Kind::Flag,

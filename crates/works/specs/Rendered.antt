@@ -1,4 +1,4 @@
--- What `print`, `tosmf`, `toxml`, `markxml`, `picture` and `markpicture` write: an exercise with itsan
+-- What `print`, `tosmf`, `toxml`, `markxml`, `picture` and `markpicture` write: an exercise with its
 -- setting in another form.
 use Rattle.std.specs.Prelude.{◌≡◌, ℕ, Bool, List, Option, None, Some, Ok, Err, length, map, nat_lt, option_map, if◌then◌else◌}
 use Rattle.std.specs.Borrow.{Bor}

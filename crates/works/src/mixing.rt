@@ -1,4 +1,5 @@
-//! The commands `mixed` and `markmixed`, and `markxmlweigh` and `markpicture` with species that are namedthe species of voices.
+//! The commands `mixed` and `markmixed`, and `markxml`, `weigh` and `markpicture` with the species
+//! of voices.
 
 ghost use Rattle.std.specs.Prelude.{◌≡◌, ◌++◌, IfErr, IfOk, string_bytes, true};
 ghost use Rattle.fux_grid.specs.Exercises.{HasCantus, IsComplete, IsValid};
