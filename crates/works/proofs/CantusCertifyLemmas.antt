@@ -92,7 +92,7 @@ module _ (plan : CantusPlan) (budget : ℕ) where
   of_best cantus penalty best fewest most below (Err (refusal.Text kind line column)) made = absurd made
   of_best cantus penalty best fewest most below (Err refusal.NoSetting) made = absurd made
   of_best cantus penalty best fewest most below (Err (refusal.Lesson kind line column)) made = absurd made
-  of_best cantus penalty best (Err (refusal.List line)) made = absurd made
+  of_best cantus penalty best fewest most below (Err (refusal.List line)) made = absurd made
   of_best cantus penalty best fewest most below (Err (refusal.Canon line)) made = absurd made
   of_best cantus penalty best fewest most below (Err (refusal.With voice)) made = absurd made
   of_best cantus penalty best fewest most below (Err (refusal.Sheet fault)) made = absurd made

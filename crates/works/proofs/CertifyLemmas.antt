@@ -148,7 +148,7 @@ module _ (budget : ℕ) (form : Form) (sheet : Sheet) (ex : Exercise) (valid : I
   of_best score penalty best below (Err (refusal.Text kind line column)) made = absurd made
   of_best score penalty best below (Err refusal.NoSetting) made = absurd made
   of_best score penalty best below (Err (refusal.Lesson kind line column)) made = absurd made
-  of_best score penalty best (Err (refusal.List line)) made = absurd made
+  of_best score penalty best below (Err (refusal.List line)) made = absurd made
   of_best score penalty best below (Err (refusal.Canon line)) made = absurd made
   of_best score penalty best below (Err (refusal.With voice)) made = absurd made
   of_best score penalty best below (Err (refusal.Sheet fault)) made = absurd made
