@@ -47,9 +47,9 @@ module _ {S : Type 0} (written : S → Option (List ℕ)) (faults : S → ℕ) (
       → OnOk result (written new ≡ appended (written old) bytes) → OnErr result (Rose (faults old) (faults new))
       → (serves old (length bytes) → IsOk result) → OnErr result (StopsShort (written old) (written new) bytes)
       → Gets written faults serves old new bytes
-  gets_written old new bytes (Ok x) all rose promised part = inl all
-  gets_written old new bytes (Err e) all rose promised part =
-      inr ((rose, λ room. not_ok (Err e) e refl (promised room)), part)
+  gets_written {T} {E} old new bytes (Ok x) all rose promised part = inl all
+  gets_written {T} {E} old new bytes (Err e) all rose promised part =
+      inr ((rose, λ room. not_ok {X = T} (Err e) e refl (promised room)), part)
 
   -- a sink that got nothing is as it was
   pub gets_none : (old new : S) → Gets written faults serves old new [] → written new ≡ written old
