@@ -19,8 +19,7 @@ use Rattle.works.specs.declared.work.Verdict.{Verdict}
 use Rattle.works.specs.Charged.{WeighsMixed}
 use Rattle.works.specs.Composed.{IsComposition, TellsAs, TellsBest, TellsNone}
 use Rattle.works.specs.Marked.{RefusesNoSetting, TellsLines}
-use Rattle.works.specs.Rendered.{MarksXml}
-use Rattle.works.specs.Rendered.{MarksPicture}
+use Rattle.works.specs.Rendered.{MarksPicture, MarksXml}
 use Rattle.works.specs.Searched.{RefusesWidth}
 use Rattle.works.specs.Sheets.{OnSheet}
 use Rattle.works.specs.Texts.{OnText, Work}
