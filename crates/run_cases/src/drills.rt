@@ -32,14 +32,25 @@ fn drilled(alloc: Global, composed: &str) -> Result<String, Fail> {
     }
 }
 
+/// Asks that a drill tells what a search finds in its exercise.
+fn tells_what_is_found<R: Threads + Sync>(
+    rt: &R,
+    alloc: Global,
+    search: &str,
+    words: &str,
+) -> Result<(), Fail> {
+    let line = format!(in alloc; "{search} E --budget 200000")?;
+    let composed = said_of(rt, alloc, line.as_str())?;
+    let expected = drilled(alloc, composed.as_str())?;
+    let got = said_of(rt, alloc, words)?;
+    agree(rt, got.as_str(), expected.as_str());
+    Ok(())
+}
+
 #[test]
 fn a_drill_composes_its_exercise_each_time(rt: HostRuntime) -> Result<(), Fail> {
     let alloc = rt.alloc();
-    let composed = said_of(&rt, alloc, "compose E --budget 200000")?;
-    let expected = drilled(alloc, composed.as_str())?;
-    for words in ["drill 1", "drill 1", "drill 1 --best", "drill --best 1"] {
-        let got = said_of(&rt, alloc, words)?;
-        agree(&rt, got.as_str(), expected.as_str());
-    }
-    Ok(())
+    tells_what_is_found(&rt, alloc, "compose", "drill 1")?;
+    tells_what_is_found(&rt, alloc, "compose", "drill 1")?;
+    tells_what_is_found(&rt, alloc, "best", "drill 1 --best")
 }
