@@ -1,6 +1,6 @@
--- The columns of bars: the first of a bar stands behind those of the bars before it (`earlier-bar`), and each of its eight is the
--- bar's own (`column-of_bar`).
-use Rattle.std.proofs.Common.{◌≡◌, ℕ, zero, suc, ◌+◌, ◌*◌, ◌<◌, ◌≤◌, List, [], ◌∷◌, ◌++◌, length, map, take, reverse, replicate, refl, ap, sym, ◌∙◌, arith, length-append}
+-- The columns of bars: the first of a bar stands behind those of the bars before it
+-- (`earlier-bar`), and each of its eight is the bar's own (`column-of_bar`).
+use Rattle.std.proofs.Common.{◌≡◌, ℕ, zero, suc, ◌+◌, ◌*◌, ◌<◌, ◌≤◌, List, [], ◌∷◌, ◌++◌, length, map, take, reverse, replicate, refl, ap, sym, ◌∙◌, arith}
 use Rattle.std.specs.Prelude.{slice_index_or}
 use Rattle.std.specs.List.{flat_map}
 use Rattle.std.proofs.lemmas.Grind.{flat_map-append}

@@ -1,7 +1,7 @@
--- A canon's rules are the book's (`canon_rules_are_the_book`): each is broken at the beginning of a bar exactly where the book's is,
--- and the book's is broken nowhere within a bar.
+-- A canon's rules are the book's (`canon_rules_are_the_book`): each is broken at the beginning of a
+-- bar exactly where the book's is, and the book's is broken nowhere within a bar.
 use Rattle.std.proofs.Common.{◌≡◌, ℕ, ◌+◌, ◌*◌, ◌<◌, Bool, true, false, List, [], ◌∷◌, Option, None, Some, length, map, take, drop, reverse, refl, ap, ap₂, sym, ◌∙◌, arith}
-use Rattle.std.specs.Prelude.{◌==◌, ◌&&◌, ◌||◌, not, nat_le, nat_lt, slice_index_or}
+use Rattle.std.specs.Prelude.{◌==◌, ◌&&◌, ◌||◌, nat_le, nat_lt, slice_index_or}
 use Rattle.std.specs.List.{list_any, range_with_len}
 use Rattle.std.proofs.lemmas.Bool.{eq-eqb, ne_eqb}
 use Rattle.std.proofs.lemmas.List.{length-reverse, length-take-le}
@@ -67,7 +67,8 @@ none_pair ex test voices none = by (pair_of voices)
     by None = refl
     by (Some pair) = ap (λ b. nat_lt pair.1 ex.voices && b) (none pair.0 pair.1) ∙ and_none (nat_lt pair.1 ex.voices)
 
--- of two voices that are free, some set passes where one of them does; of the two, where both do together
+-- of two voices that are free, some set passes where one of them does; of the two, where both do
+-- together
 free_sets : (canon : Canon) (test : ℕ → Bool) → list_any (on_free_voice (as_exercise canon) test) all_sets ≡ (test 0 || test 1)
 unfolding all_sets
 free_sets canon test = ap (λ b. test 0 || b) (or_none (test 1))

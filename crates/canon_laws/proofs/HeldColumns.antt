@@ -1,9 +1,9 @@
--- A voice has the same notes in bars and in their columns (`pitches-held`, `previous-held`), and sounds the same before a bar
--- (`sounding-held`). Within a bar nothing starts (`starts-held`, `column_held`).
-use Rattle.std.proofs.Common.{◌≡◌, ℕ, zero, suc, ◌<◌, List, [], ◌∷◌, ◌++◌, Bool, false, Option, None, Some, length, map, reverse, replicate, refl, ap, sym, ◌∙◌, arith}
+-- A voice has the same notes in bars and in their columns (`pitches-held`, `previous-held`), and
+-- sounds the same before a bar (`sounding-held`). Within a bar nothing starts (`starts-held`,
+-- `column_held`).
+use Rattle.std.proofs.Common.{◌≡◌, ℕ, zero, suc, ◌<◌, List, [], ◌∷◌, ◌++◌, false, map, reverse, replicate, refl, ap, ◌∙◌, arith}
 use Rattle.std.specs.Prelude.{slice_get, slice_index_or}
-use Rattle.std.proofs.lemmas.List.{get_or-replicate, map-append}
-use Rattle.fux_pitch.specs.declared.pitch.Pitch.{Pitch}
+use Rattle.std.proofs.lemmas.List.{get_or-replicate}
 use Rattle.fux_grid.specs.declared.cell.Cell.{Cell}
 use Rattle.fux_grid.specs.declared.cell.Cell.TheVariants.{Rest, Hold, Start}
 use Rattle.fux_grid.specs.declared.cell.Note.{Note}

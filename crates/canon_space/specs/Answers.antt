@@ -1,5 +1,5 @@
--- What a search for the best canon tells within a budget, which is spent exactly where it must be. Loads are counted over the bars that
--- begin a canon and break no rule.
+-- What a search for the best canon tells within a budget, which is spent exactly where it must be.
+-- Loads are counted over the bars that begin a canon and break no rule.
 use Rattle.std.specs.Prelude.{ℕ, List}
 use Rattle.fux_grid.specs.declared.cell.Cell.{Cell}
 use Rattle.penalty_sheet.specs.declared.sheet.Sheet.{Sheet}

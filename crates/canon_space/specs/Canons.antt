@@ -1,5 +1,5 @@
--- Canons in two voices, and what is asked of their bars. A bar is named by the cells with which it begins, one for
--- each voice: a note that starts there is held to the bar's end.
+-- Canons in two voices, and what is asked of their bars. A bar is named by the cells with which it
+-- begins, one for each voice: a note that starts there is held to the bar's end.
 use Rattle.std.specs.Prelude.{ℕ, ◌+◌, ◌-◌, ◌<◌, ◌≤◌, ◌==◌, ℤ, pos, negsuc, ◌+ℤ◌, ◌≤ℤ◌, Bool, true, false, ◌&&◌, ◌||◌, nat_lt, List, [], All, length, Option, Some, None, slice_get, slice_index_or, if◌then◌else◌}
 use Rattle.std.specs.Option.{option_map_or}
 use Rattle.std.specs.Ordering.{int_eq}
@@ -70,14 +70,15 @@ abbrev pub follows_leader : Canon → Bars → Cell → Bool
 follows_leader canon behind c =
     answers canon.shift (started_pitch (cell_in (bar_before canon.delay behind) canon.leader)) (started_pitch c)
 
--- the follower rests in the first DELAY bars, and in each later one it has a note that follows the leader
+-- the follower rests in the first DELAY bars, and in each later one it has a note that follows the
+-- leader
 abbrev pub follower_fits : Canon → Bars → Cell → Bool
 follower_fits canon behind c =
     if nat_lt (length behind) canon.delay then is_rest c
     else has_note canon behind (follower canon) c && follows_leader canon behind c
 
--- the next bar is as a canon setting asks: it is one of the canon's bars and of two voices, the leader has a note,
--- and the follower fits
+-- the next bar is as a canon setting asks: it is one of the canon's bars and of two voices, the
+-- leader has a note, and the follower fits
 abbrev pub is_canon_bar : Canon → Bars → List Cell → Bool
 is_canon_bar canon behind now =
     nat_lt (length behind) canon.bars && (length now == 2)

@@ -9,7 +9,8 @@ use Rattle.canon_space.specs.Canons.{Bars}
 use Rattle.canon_space.specs.Kept.{history_of}
 use Rattle.canon_space.specs.Rules.{is_live, paid}
 
--- the node has these bars, given from the newest to the oldest, and the notes of both voices in them
+-- the node has these bars, given from the newest to the oldest, and the notes of both voices in
+-- them
 pub record HasBars (behind : Bars) (node : CanonNode) : Type 0 where
   pub count : node.len ≡ length behind
   pub bars : history_of (take node.len node.bars) ≡ behind

@@ -1,5 +1,6 @@
--- Paths of child numbers, and the bars that they lead to. A child's number is that of the cell of voice 0 times 74,
--- and that of voice 1: of a rest 0, of a note from 1 on by its key, from 24 to 96.
+-- Paths of child numbers, and the bars that they lead to. A child's number is that of the cell of
+-- voice 0 times 74, and that of voice 1: of a rest 0, of a note from 1 on by its key, from 24 to
+-- 96.
 use Rattle.std.specs.Prelude.{◌≡◌, ℕ, ◌+◌, ◌/◌, ◌%◌, ◌==◌, Bool, true, ◌&&◌, nat_lt, List, [], ◌∷◌, Option, Some, None, map, reverse, if◌then◌else◌}
 use Rattle.std.specs.List.{list_all}
 use Rattle.fux_pitch.specs.declared.pitch.Pitch.{Pitch}

@@ -1,13 +1,13 @@
--- The rules of canons, and what canons cost: where a bar begins. Within bars, where notes are held, none of these
--- rules is broken and none of these tolls stands. Both voices are read as free voices of species 1.
-use Rattle.std.specs.Prelude.{◌≡◌, ◌≢◌, ℕ, ◌≤◌, ◌+◌, ◌==◌, Bool, true, not, ◌&&◌, ◌||◌, nat_le, nat_lt, List, [], ◌∷◌, length, map, replicate, reverse, if◌then◌else◌}
+-- The rules of canons, and what canons cost: where a bar begins. Within bars, where notes are held,
+-- none of these rules is broken and none of these tolls stands. Both voices are read as free voices
+-- of species 1.
+use Rattle.std.specs.Prelude.{◌≡◌, ℕ, ◌+◌, ◌==◌, Bool, true, not, ◌&&◌, ◌||◌, nat_le, nat_lt, List, [], ◌∷◌, length, map, replicate, reverse, if◌then◌else◌}
 use Rattle.std.specs.List.{flat_map, list_all, list_any, sum_by}
 use Rattle.fux_pitch.specs.declared.pitch.Pitch.{Pitch}
 use Rattle.fux_grid.specs.declared.cell.Cell.{Cell}
 use Rattle.fux_grid.specs.declared.cell.Cell.TheVariants.{Rest, Hold, Start}
 use Rattle.fux_grid.specs.Cells.{cell_in, pitch_of}
 use Rattle.fux_grid.specs.Columns.{line}
-use Rattle.fux_grid.specs.Order.{IsEarlier}
 use Rattle.rule_law.specs.Pairs.{move_alike, move_into_perfect, sound_perfect, sound_same_key}
 use Rattle.rule_law.specs.Terms.{holds_of, interval_in}
 use Rattle.melody_rules.specs.Rows.{last_of, leaves_open, looks_back, pays_move, pitches, voice_rule, window_rule}
@@ -84,7 +84,8 @@ is_live canon (now ∷ behind) = is_live canon behind && may_come canon behind n
 abbrev pub charge : Sheet → ℕ → Bool → ℕ
 charge sheet toll stands = if stands then weight_of sheet toll else 0
 
--- Q7 to Q10: what the move costs by which a voice comes to the next bar after notes of these pitches, the latest first
+-- Q7 to Q10: what the move costs by which a voice comes to the next bar after notes of these
+-- pitches, the latest first
 abbrev pub move_cost : Sheet → List Pitch → Cell → ℕ
 move_cost sheet ps now =
     sum_by (λ toll. charge sheet toll (pays_move toll (last_of ps) now)) (7 ∷ 8 ∷ 9 ∷ 10 ∷ [])

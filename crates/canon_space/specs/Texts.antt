@@ -1,5 +1,6 @@
--- The text of a canon as one row of words, each with the byte that ends it: five lines, each ended by a line feed, whose words have
--- one space between them. The kind of a fault is the number of its line.
+-- The text of a canon as one row of words, each with the byte that ends it: five lines, each ended
+-- by a line feed, whose words have one space between them. The kind of a fault is the number of its
+-- line.
 use Rattle.std.specs.Prelude.{◌≡◌, ◌↔◌, ℕ, ◌+◌, ◌-◌, ◌==◌, ◌≤◌, ℤ, pos, ◌-ℤ◌, nat_lt, int_le, List, [], ◌∷◌, ◌++◌, codes, length, option_map, option_and_then, Option, Some, None, Result, Ok, Err, if◌then◌else◌}
 use Rattle.fux_pitch.specs.declared.mode.Mode.{Mode}
 use Rattle.fux_pitch.specs.declared.pitch.Pitch.{Pitch}
@@ -48,7 +49,8 @@ canon_said mode bars leader shift delay range = record {
   ranges = ranges_of leader range;
 }
 
--- the lines of a text from each on, by what those before it say: behind the fifth line there is nothing
+-- the lines of a text from each on, by what those before it say: behind the fifth line there is
+-- nothing
 
 -- `LOW HIGH` of the follower
 abbrev pub range_row : Mode → ℕ → LeaderLine → ℤ → ℕ → Row ℕ Canon
@@ -86,15 +88,15 @@ abbrev pub canon_row : Row ℕ Canon
 canon_row =
     Row.place (word_place 1 (codes "fux-canon ")) (λ _. Row.place (word_place 1 (codes "1" ++ 10 ∷ [])) (λ _. mode_row))
 
--- the canon that a text is of, or its first line at fault; a text of more than 65,536 bytes is at fault in its first
--- line
+-- the canon that a text is of, or its first line at fault; a text of more than 65,536 bytes is at
+-- fault in its first line
 unfoldable pub canon_of : List ℕ → Result Canon ℕ
 canon_of text = if nat_lt 65536 (length text) then Err 1 else said is_end canon_row text
 
 -- ---- without reading
 
--- a text is read as a canon just where it is short and its words are right and say it, and a line is told just where the first word
--- at fault is one of that line
+-- a text is read as a canon just where it is short and its words are right and say it, and a line
+-- is told just where the first word at fault is one of that line
 abbrev pub CanonTextsAreRead : Type 0
 CanonTextsAreRead = (text : List ℕ) (canon : Canon)
     → IsText (length text ≤ 65536) is_end canon_row text canon ↔ (canon_of text ≡ Ok canon)

@@ -7,8 +7,8 @@ use Rattle.penalty_sheet.specs.declared.sheet.Sheet.{Sheet}
 use Rattle.canon_space.specs.declared.canon.Canon.{Canon}
 use Rattle.canon_space.specs.Rules.{IsLawful, IsLive, penalty_of}
 
--- bars are live where they begin a canon and break no rule, and cost at least what they cost so far; of canons that cost as much the one
--- that is earlier in reading order comes first
+-- bars are live where they begin a canon and break no rule, and cost at least what they cost so
+-- far; of canons that cost as much the one that is earlier in reading order comes first
 abbrev pub canons : Canon → Sheet → Quest (List Cell)
 canons canon sheet = record {
   IsLive = IsLive canon;

@@ -11,7 +11,8 @@ use fux_grid::{Cell, cell_of};
 use fux_pitch::{Pitch, in_gamut, semitone, spell};
 use rhythm_cadence::is_final_in;
 
-/// How many cells a voice may begin a bar with: a rest, or a note on each of the keys from 24 to 96.
+/// How many cells a voice may begin a bar with: a rest, or a note on each of the keys from 24 to
+/// 96.
 pub const CELLS: usize = 74;
 
 /// The cells with which a bar begins, the lower voice first. Its notes are held to its end.
@@ -51,8 +52,8 @@ pub fn numbered_bar(k: usize) -> Bar
     }
 }
 
-/// The bar that begins so many bars before the one after these bars, which stand from the oldest to the newest; no cells where there
-/// is none.
+/// The bar that begins so many bars before the one after these bars, which stand from the oldest to
+/// the newest; no cells where there is none.
 pub fn bar_before(bars: &[Bar], count: usize) -> &[Cell]
     requires { 1 ≤ count }
     ensures { result.now ≡ canons.bar_before count (history_of bars.now) }
@@ -63,7 +64,8 @@ pub fn bar_before(bars: &[Bar], count: usize) -> &[Cell]
     &bars[bars.len() - count].cells
 }
 
-/// Whether a pitch may sound for a voice in a bar, counted from 1: it is in the bar's gamut and in the voice's range.
+/// Whether a pitch may sound for a voice in a bar, counted from 1: it is in the bar's gamut and in
+/// the voice's range.
 fn may_sound(canon: &Canon, v: usize, bar: usize, pitch: Pitch) -> bool
     requires voice { v < 2 }
     requires first { 1 ≤ bar }
@@ -88,7 +90,8 @@ fn has_note(canon: &Canon, behind: &[Bar], v: usize, cell: Cell) -> bool
     }
 }
 
-/// Whether the follower's note has as many degrees more than the leader's note of so many bars before as the canon asks.
+/// Whether the follower's note has as many degrees more than the leader's note of so many bars
+/// before as the canon asks.
 fn follows_leader(canon: &Canon, behind: &[Bar], cell: Cell) -> bool
     requires { IsCanon canon.now }
     ensures { result ≡ canons.follows_leader canon.now (history_of behind.now) cell }
@@ -140,7 +143,8 @@ fn fits(canon: &Canon, behind: &[Bar], v: usize, cell: Cell) -> bool
     }
 }
 
-/// The least number, from this one on, of a cell that fits a voice in the bar after these bars; 74 where none does.
+/// The least number, from this one on, of a cell that fits a voice in the bar after these bars; 74
+/// where none does.
 fn next_cell(canon: &Canon, behind: &[Bar], v: usize, from: usize) -> usize
     requires canon { IsCanon canon.now }
     requires voice { v < 2 }
@@ -159,7 +163,8 @@ fn next_cell(canon: &Canon, behind: &[Bar], v: usize, from: usize) -> usize
     CELLS
 }
 
-/// The least number of a cell of voice 1 to look at, where those of a child's number and on are looked at and voice 0 has this cell.
+/// The least number of a cell of voice 1 to look at, where those of a child's number and on are
+/// looked at and voice 0 has this cell.
 fn upper_from(from: usize, lower: usize) -> usize
     ensures { result ≡ paths.upper_from from lower }
 {
@@ -170,13 +175,15 @@ fn upper_from(from: usize, lower: usize) -> usize
     }
 }
 
-/// The least number of a bar, from this one on, both of whose cells may fit after these bars; the number of all where none does.
+/// The least number of a bar, from this one on, both of whose cells may fit after these bars; the
+/// number of all where none does.
 pub fn next_bar(canon: &Canon, behind: &[Bar], from: usize) -> usize
     requires canon { IsCanon canon.now }
     requires room { length behind.now < canon.now.bars }
     requires from { from < 5476 }
     ensures onward { from ≤ result }
-    ensures passed { (k : ℕ) → from ≤ k → k < result → paths.both_fit canon.now (history_of behind.now) k ≡ false }
+    ensures passed { (k : ℕ) → from ≤ k → k < result → paths.both_fit canon.now
+        (history_of behind.now) k ≡ false }
 {
     let lower = next_cell(canon, behind, 0, from / CELLS);
     if lower == CELLS {

@@ -52,7 +52,8 @@ pub fn voice_cost(sheet: &Sheet, notes: &VoiceNotes, now: Cell) -> u64
     move_cost(sheet, notes, now) + charge(sheet, 13, leap_open_after(notes, now))
 }
 
-/// Whether the bar after these bars and the three before it begin with imperfect intervals of so many degrees.
+/// Whether the bar after these bars and the three before it begin with imperfect intervals of so
+/// many degrees.
 fn four_sound(behind: &[Bar], now: &[Cell], degrees: u8) -> bool
     ensures { result ≡ rules.four_sound degrees (history_of behind.now) now.now }
 {

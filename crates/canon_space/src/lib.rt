@@ -1,4 +1,5 @@
-//! Canons in two voices as a tree: its live paths are the lists of whole bars that begin a canon, and its leaves the lawful canons.
+//! Canons in two voices as a tree: its live paths are the lists of whole bars that begin a canon,
+//! and its leaves the lawful canons.
 #![tactic(auto)]
 
 mod bars;

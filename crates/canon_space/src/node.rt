@@ -52,7 +52,8 @@ impl CanonNode {
     fn breaks(&self, canon: &Canon, now: &Bar) -> bool
         requires canon { IsCanon canon.now }
         requires room { self.now.len < canon.now.bars }
-        ensures { (behind : Bars) → HasBars behind self.now → result ≡ rules.breaks_some_rule canon.now behind now.now.cells }
+        ensures { (behind : Bars) → HasBars behind self.now → result ≡ rules.breaks_some_rule
+            canon.now behind now.now.cells }
     {
         breaks_voice(&self.lower, cell_of(&now.cells, 0))
             || breaks_voice(&self.upper, cell_of(&now.cells, 1))
@@ -64,7 +65,8 @@ impl CanonNode {
         requires canon { IsCanon canon.now }
         requires two { length now.now.cells ≡ 2 }
         requires room { self.now.len < canon.now.bars }
-        ensures { (behind : Bars) → HasBars behind self.now → result ≡ rules.may_come canon.now behind now.now.cells }
+        ensures { (behind : Bars) → HasBars behind self.now → result ≡ rules.may_come canon.now
+            behind now.now.cells }
     {
         let behind = self.bars();
         is_canon_bar(canon, behind, now)
@@ -76,7 +78,8 @@ impl CanonNode {
     fn cost(&self, canon: &Canon, sheet: &Sheet, now: &Bar) -> u64
         requires canon { IsCanon canon.now }
         requires room { self.now.len < canon.now.bars }
-        ensures value { (behind : Bars) → HasBars behind self.now → result ≡ rules.bar_cost canon.now sheet.now behind now.now.cells }
+        ensures value { (behind : Bars) → HasBars behind self.now → result
+            ≡ rules.bar_cost canon.now sheet.now behind now.now.cells }
         ensures bound { result ≤ 458745 }
     {
         voice_cost(sheet, &self.lower, cell_of(&now.cells, 0))
@@ -88,7 +91,8 @@ impl CanonNode {
     fn with(&self, now: Bar, cost: u64) -> CanonNode
         requires room { self.now.len < 24 }
         requires cost { self.now.paid + cost < 2 ^ 64 }
-        ensures bars { (behind : Bars) → HasBars behind self.now → HasBars (now.cells ∷ behind) result }
+        ensures bars { (behind : Bars) → HasBars behind self.now → HasBars (now.cells ∷ behind)
+            result }
         ensures paid { result.paid ≡ self.now.paid + cost }
     {
         let mut next = *self;

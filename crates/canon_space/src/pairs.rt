@@ -52,7 +52,8 @@ fn ends_off_final(canon: &Canon, now: &[Cell]) -> bool
 /// Whether a rule of both voices is broken in the bar after these bars.
 pub fn breaks_pair(canon: &Canon, behind: &[Bar], now: &Bar) -> bool
     requires { length behind.now < canon.now.bars }
-    ensures { result ≡ list_any (rules.breaks_pair canon.now (history_of behind.now) now.now.cells) rules.pair_rules }
+    ensures { result ≡ list_any (rules.breaks_pair canon.now (history_of behind.now) now.now.cells)
+        rules.pair_rules }
 {
     let before = bar_before(behind, 1);
     let now = &now.cells;

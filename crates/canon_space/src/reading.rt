@@ -139,7 +139,8 @@ fn from_follower(
     requires most { bars ≤ 24 }
     requires voice { leader.voice < 2 }
     requires rises { key_of leader.range.0 ≤ℤ key_of leader.range.1 }
-    ensures value { Reads (λ canon. canon) result (row_in (texts.follower_row mode bars leader) (words_of words.entry)) }
+    ensures value { Reads (λ canon. canon) result (row_in (texts.follower_row mode bars leader)
+        (words_of words.entry)) }
     ensures within { IfOk result IsCanon }
 {
     let words = words.literal(5, b"follower ")?;
@@ -172,7 +173,8 @@ fn from_range(
     requires most_shift { shift ≤ℤ pos 14 }
     requires least_delay { 1 ≤ delay }
     requires most_delay { delay + 2 ≤ bars }
-    ensures value { Reads (λ canon. canon) result (row_in (texts.range_row mode bars leader shift delay) (words_of words.entry)) }
+    ensures value { Reads (λ canon. canon) result
+        (row_in (texts.range_row mode bars leader shift delay) (words_of words.entry)) }
     ensures within { IfOk result IsCanon }
 {
     let (word, words) = words.next(5)?;
@@ -192,7 +194,8 @@ fn from_range(
 fn from_leader(words: Words<'_>, mode: Mode, bars: u8) -> Result<Canon, Fault<u32>>
     requires least { 3 ≤ bars }
     requires most { bars ≤ 24 }
-    ensures value { Reads (λ canon. canon) result (row_in (texts.leader_row mode bars) (words_of words.entry)) }
+    ensures value { Reads (λ canon. canon) result (row_in (texts.leader_row mode bars)
+        (words_of words.entry)) }
     ensures within { IfOk result IsCanon }
 {
     let words = words.literal(4, b"leader ")?;
@@ -215,7 +218,8 @@ fn from_leader(words: Words<'_>, mode: Mode, bars: u8) -> Result<Canon, Fault<u3
 /// The same from the third line on.
 #[tactic(auto, unfolding(text_lines::specs::Rows::row_in, text_lines::specs::Reading::literal))]
 fn from_bars(words: Words<'_>, mode: Mode) -> Result<Canon, Fault<u32>>
-    ensures value { Reads (λ canon. canon) result (row_in (texts.bars_row mode) (words_of words.entry)) }
+    ensures value { Reads (λ canon. canon) result
+        (row_in (texts.bars_row mode) (words_of words.entry)) }
     ensures within { IfOk result IsCanon }
 {
     let words = words.literal(3, b"bars ")?;
@@ -266,8 +270,8 @@ pub fn read_canon(bytes: &[u8]) -> Result<Canon, u32>
     }
 }
 
-/// A law, and nothing to run: a text is read as a canon just where it is a text of that canon, and a line is told just where the
-/// first fault stands in it.
+/// A law, and nothing to run: a text is read as a canon just where it is a text of that canon, and
+/// a line is told just where the first fault stands in it.
 pub fn canon_texts_are_read()
     ensures texts { texts.CanonTextsAreRead }
     ensures faults { texts.CanonFaultsAreRead }

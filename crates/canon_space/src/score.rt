@@ -37,7 +37,10 @@ fn put_column(score: &mut Score, lower: Cell, upper: Cell)
     requires voices { score.old.voices ≡ 2 }
     requires room { length score.old.columns < 192 }
     requires follows { FollowsLast score.old.columns (lower ∷ upper ∷ []) }
-    ensures { score.new ≡ record score.old { columns = score.old.columns ++ (lower ∷ upper ∷ []) ∷ [] } }
+    ensures { score.new ≡ record score.old {
+      columns = score.old.columns ++ (lower ∷ upper ∷ [])
+          ∷ [];
+    } }
 {
     let Ok(()) = score.push(column_of(lower, upper)) else {
         unreachable!()
@@ -49,7 +52,10 @@ fn put_bar(score: &mut Score, k: usize)
     requires number { k < 5476 }
     requires voices { score.old.voices ≡ 2 }
     requires room { length score.old.columns + 8 ≤ 192 }
-    ensures { score.new ≡ record score.old { columns = score.old.columns ++ columns_of_bar (numbered_bar k) } }
+    ensures { score.new ≡ record score.old {
+      columns = score.old.columns
+          ++ columns_of_bar (numbered_bar k);
+    } }
 {
     let bar = numbered_bar(k);
     let lower = cell_of(&bar.cells, 0);
@@ -64,7 +70,10 @@ fn put_bar(score: &mut Score, k: usize)
 #[tactic(auto, using(crate::proofs::ScoreSteps::eight_a_number))]
 pub fn canon_score(alloc: Global, space: &CanonSpace, path: &[u16]) -> Result<Score, Memory>
     requires { IsSome (live_at space.now.canon space.now.sheet path.now) }
-    ensures value { IfOk result (λ score. score ≡ record { voices = 2; columns = columns_of (bars_at path.now) }) }
+    ensures value { IfOk result (λ score. score ≡ record {
+      voices = 2;
+      columns = columns_of (bars_at path.now);
+    }) }
     ensures counted { length (columns_of (bars_at path.now)) ≡ 8 * length path.now }
 {
     let _ = space.canon();

@@ -11,8 +11,8 @@ use penalty_sheet::Sheet;
 use std::marker::Model;
 use tree_search::{QuestSpace, Space};
 
-/// The canons that are as one asks, as a tree: a child adds the bar of its number. It is dead where the bar isn't as a canon setting
-/// asks, or a rule is broken by it.
+/// The canons that are as one asks, as a tree: a child adds the bar of its number. It is dead where
+/// the bar isn't as a canon setting asks, or a rule is broken by it.
 #[derive(Drop)]
 pub struct CanonSpace {
     canon: Canon,
@@ -86,14 +86,16 @@ impl Space for CanonSpace {
         }
     }
 
-    /// A bar may come only if each of its cells fits its voice, so those may be passed of which one doesn't.
+    /// A bar may come only if each of its cells fits its voice, so those may be passed of which one
+    /// doesn't.
     fn next_child(&self, node: &CanonNode, from: usize, _best: Option<u64>) -> usize {
         next_bar(&self.canon, node.bars(), from)
     }
 }
 
-/// Its live paths are exactly the whole bars that begin a canon and break no rule, with children in reading order, and its leaves exactly
-/// the lawful canons, with their penalties by its sheet as values.
+/// Its live paths are exactly the whole bars that begin a canon and break no rule, with children in
+/// reading order, and its leaves exactly the lawful canons, with their penalties by its sheet as
+/// values.
 impl QuestSpace for CanonSpace {
     ghost use Rattle.std.specs.Prelude.{List};
     ghost use Rattle.fux_grid.specs.declared.cell.Cell.{Cell};

@@ -1,15 +1,14 @@
--- What is answered where no head stands at the front (`starts_answer`), where the head isn't sound (`opening_answer`), and where claims
--- are judged (`judged_answer`).
-use Rattle.std.proofs.Common.{◌≡◌, ◌⊎◌, inl, inr, ℕ, List, Result, Ok, Err, refl, ap, subst, sym}
+-- What is answered where no head stands at the front (`starts_answer`), where the head isn't sound
+-- (`opening_answer`), and where claims are judged (`judged_answer`).
+use Rattle.std.proofs.Common.{◌≡◌, ◌⊎◌, inl, inr, ℕ, List, Result, Ok, Err, ap}
 use Rattle.std.specs.Prelude.{IfOk}
-use Rattle.cert_file.specs.Readings.{Files, MayBe, Reading}
+use Rattle.cert_file.specs.Readings.{Files, Reading}
 use Rattle.cert_file.specs.declared.fault.ReadFault.{ReadFault}
 use Rattle.cert_file.specs.declared.fault.ReadFault.TheVariants.{Text, Unreadable}
 use Rattle.cert_file.specs.declared.verdict.Verdict.{Verdict}
 use Rattle.cert_file.specs.declared.verdict.Verdict.TheVariants as verdict
 use Rattle.cert_text.specs.declared.answers.CertFault.TheVariants.{CertHead as WrongHead, CertWord, CertEnd, Memory}
 use Rattle.cert_text.specs.declared.answers.Refused.{Refused}
-use Rattle.fux_port.specs.Files.{HasFile}
 use Rattle.cantus_space.specs.declared.plan.CantusPlan.{CantusPlan}
 use Rattle.cantus_text.specs.declared.head.CantusHead.{CantusHead}
 use Rattle.cantus_text.specs.Heads.{IsHeadText, Said}

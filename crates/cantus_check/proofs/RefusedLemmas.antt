@@ -1,4 +1,5 @@
--- Bytes are refused before any claim of a cantus certificate in one way, if they are (`cantus_once`).
+-- Bytes are refused before any claim of a cantus certificate in one way, if they are
+-- (`cantus_once`).
 use Rattle.std.proofs.Common.{◌≡◌, ℕ, ◌++◌, List, length, drop, refl, sym, ap, subst, ◌∙◌, arith, append_assoc}
 use Rattle.std.proofs.lemmas.List.{take-append-drop}
 use Rattle.cert_file.specs.Readings.{judged_bytes, longest_certificate}

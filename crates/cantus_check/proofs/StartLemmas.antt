@@ -1,5 +1,6 @@
--- How the reading of a file starts: behind its head (`started`), or where a head stops (`head_stops`).
-use Rattle.std.proofs.Common.{◌≡◌, ℕ, ◌+◌, ◌≤◌, ◌⊎◌, inl, inr, ◌++◌, Err, List, length, take, drop, refl, sym, ap, subst, ◌∙◌, arith, length-drop}
+-- How the reading of a file starts: behind its head (`started`), or where a head stops
+-- (`head_stops`).
+use Rattle.std.proofs.Common.{◌≡◌, ℕ, ◌+◌, ◌⊎◌, inl, inr, ◌++◌, Err, List, length, take, drop, refl, sym, ap, subst, ◌∙◌, arith, length-drop}
 use Rattle.std.proofs.lemmas.List.{length-take-le, take-append-drop}
 use Rattle.cert_file.specs.Readings.{Begins, Files, MayBe, longest_piece, reading_from}
 use Rattle.cert_file.specs.declared.fault.ReadFault.TheVariants.{Text}

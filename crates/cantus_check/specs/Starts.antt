@@ -1,5 +1,5 @@
 -- The head at the front of a cantus certificate's file.
-use Rattle.std.specs.Prelude.{◌≡◌, ℕ, ◌⊎◌, List, Option, Result, Ok, Err}
+use Rattle.std.specs.Prelude.{◌≡◌, ℕ, ◌⊎◌, List, Result, Ok, Err}
 use Rattle.cert_file.specs.Readings.{Files, MayBe, Reading}
 use Rattle.cert_file.specs.declared.fault.ReadFault.{ReadFault}
 use Rattle.cert_file.specs.declared.fault.ReadFault.TheVariants.{Unreadable, Text}

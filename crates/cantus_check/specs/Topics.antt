@@ -1,4 +1,5 @@
--- Cantus certificates as a subject: a head stands in front of claims, which are of lists of pitches.
+-- Cantus certificates as a subject: a head stands in front of claims, which are of lists of
+-- pitches.
 use Rattle.std.specs.Prelude.{◌≡◌, ℕ, List, [], Some, None, ⊤}
 use Rattle.std.specs.Io.{StartsWith}
 use Rattle.cert_file.specs.declared.verdict.Verdict.{Verdict}
@@ -6,7 +7,6 @@ use Rattle.cert_file.specs.declared.verdict.Verdict.TheVariants as verdict
 use Rattle.cert_text.specs.declared.answers.Accepted.{Accepted}
 use Rattle.cert_text.specs.declared.answers.Accepted.TheVariants as accepted
 use Rattle.cert_text.specs.declared.answers.CertFault.TheVariants.{CertHead as WrongHead}
-use Rattle.cert_text.specs.declared.answers.Why.{Why}
 use Rattle.cert_text.specs.declared.answers.Why.TheVariants.{Head}
 use Rattle.cert_text.specs.Pieces.{GoesTo}
 use Rattle.cert_tree.specs.Judgings.{IsKept}
@@ -36,7 +36,8 @@ pub record IsUnsound (plan : CantusPlan) (number : ℕ) (bytes : List ℕ) : Typ
   pub heads : IsHeadText said front
   pub unsound : IsHeadSound plan said → ⊥
 
--- what a verdict says of bytes whose front is refused: no head stands there, or the head isn't sound
+-- what a verdict says of bytes whose front is refused: no head stands there, or the head isn't
+-- sound
 abbrev pub Refuses : CantusPlan → Verdict → List ℕ → Type 0
 Refuses plan (verdict.Text (WrongHead at)) bytes = GoesTo IsHeadText bytes at
 Refuses plan (verdict.Text fault) bytes = ⊥
@@ -55,8 +56,8 @@ cantus_subject plan = record {
   Holds = Holds plan;
 }
 
--- what each checker keeps: its head is sound, and as long as no claim was refused, each cantus that refutes the head is begun by a list
--- that is owed
+-- what each checker keeps: its head is sound, and as long as no claim was refused, each cantus that
+-- refutes the head is begun by a list that is owed
 pub record IsChecking (plan : CantusPlan) (said : Said) (judging : Judging CantusKnown) : Type 0 where
   pub sound : IsHeadSound plan said
   pub kept : IsKept (tree_of plan said) (IsJudged plan said) (ways_of plan) Begins (Refutes plan said) judging

@@ -25,8 +25,9 @@ pub enum CantusOpen {
     Memory,
 }
 
-/// Judges the claims of a cantus certificate one by one. It holds the open lists of pitches that begin the one owed next, and nothing else
-/// of what was judged, so that it takes no memory after it is opened.
+/// Judges the claims of a cantus certificate one by one. It holds the open lists of pitches that
+/// begin the one owed next, and nothing else of what was judged, so that it takes no memory after
+/// it is opened.
 #[derive(Drop)]
 pub struct CantusChecker {
     case: CantusCase,
@@ -59,8 +60,10 @@ impl Model for CantusChecker {
 
 /// Whether a cantus is lawful and has this penalty.
 fn has_penalty(space: &CantusSpace, cantus: &[Pitch], penalty: u64) -> bool
-    ensures sound { result ≡ true → IsLawful space.now cantus.now × (penalty_of space.now cantus.now ≡ penalty) }
-    ensures unsound { result ≡ false → IsLawful space.now cantus.now → penalty_of space.now cantus.now ≡ penalty → ⊥ }
+    ensures sound { result ≡ true → IsLawful space.now cantus.now × (penalty_of space.now cantus.now
+        ≡ penalty) }
+    ensures unsound { result ≡ false → IsLawful space.now cantus.now → penalty_of space.now
+        cantus.now ≡ penalty → ⊥ }
 {
     match lawful_penalty(space, cantus) {
         Some(found) => found == penalty,
@@ -116,8 +119,9 @@ impl CantusChecker {
         }
     }
 
-    /// What each checker keeps: its head is sound, and as long as no claim was refused, each cantus that refutes the head is begun by a
-    /// list that is owed. It does nothing; callers that prove something about a checker learn this from it.
+    /// What each checker keeps: its head is sound, and as long as no claim was refused, each cantus
+    /// that refutes the head is begun by a list that is owed. It does nothing; callers that prove
+    /// something about a checker learn this from it.
     pub fn kept(&self)
         ensures sound { IsHeadSound self.now.asked self.now.head }
         ensures owes { self.now.refusal ≡ None

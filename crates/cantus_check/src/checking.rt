@@ -26,7 +26,8 @@ pub enum CantusFault {
     Memory,
 }
 
-/// Judges the file of a cantus certificate, read in pieces of at most 65,536 bytes. All memory is taken before the first claim is judged.
+/// Judges the file of a cantus certificate, read in pieces of at most 65,536 bytes. All memory is
+/// taken before the first claim is judged.
 pub fn check_cantus_file<F: Shelf>(
     alloc: Global,
     space: &CantusSpace,
@@ -37,14 +38,15 @@ pub fn check_cantus_file<F: Shelf>(
         (Rose (F.faults shelf.old) (F.faults shelf.new)) result }
 
     // Each valid certificate is accepted.
-    ensures accepts { IfOk result
-        (λ it. (said : Said) → AcceptsValid (cantus_subject space.now) said (F.files shelf.old) name.now it) }
+    ensures accepts { IfOk result (λ it. (said : Said) → AcceptsValid (cantus_subject space.now)
+        said (F.files shelf.old) name.now it) }
 
     // Where there is no file of the name, there is no verdict.
     ensures missing { IsMissing (F.files shelf.old) name.now
         → (result ≡ Err CantusFault.Unreadable) ⊎ (result ≡ Err CantusFault.Memory) }
 
-    // No shelf is blamed that promises each read of the file up to the limit, and no more is read than the limit and a byte beyond it.
+    // No shelf is blamed that promises each read of the file up to the limit, and no more is read
+    // than the limit and a byte beyond it.
     ensures served { ServesWhole (F.serves shelf.old) name.now 1073741824
         → IfErr result (λ fault. fault ≢ CantusFault.Unreadable) }
     ensures little { F.given shelf.new ≤ F.given shelf.old + 1073741825 }

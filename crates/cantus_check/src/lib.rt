@@ -1,5 +1,5 @@
-//! The checker of cantus certificates: it judges claims one by one, as a certificate's file is read, and tells what the file is found to be.
-//! It knows nothing of the search.
+//! The checker of cantus certificates: it judges claims one by one, as a certificate's file is
+//! read, and tells what the file is found to be. It knows nothing of the search.
 #![tactic(auto)]
 
 mod checker;

@@ -13,14 +13,15 @@ use cert_text::CertFault;
 use fux_port::Shelf;
 use std::alloc::Global;
 
-/// The head of the certificate that a file is, and a reader of the claims behind it. It reads 65,536 bytes of the file, or all of a
-/// shorter one, and takes all the memory that reading wants.
+/// The head of the certificate that a file is, and a reader of the claims behind it. It reads
+/// 65,536 bytes of the file, or all of a shorter one, and takes all the memory that reading wants.
 pub fn start<F: Shelf>(
     alloc: Global,
     shelf: &mut F,
     name: &str,
 ) -> Result<(CantusHead, Reader), ReadFault>
-    ensures starts { Starts (F.files shelf.old) name.now (Rose (F.faults shelf.old) (F.faults shelf.new)) result }
+    ensures starts { Starts (F.files shelf.old) name.now
+        (Rose (F.faults shelf.old) (F.faults shelf.new)) result }
     ensures missing { IsMissing (F.files shelf.old) name.now → IsUnread result }
     ensures served { ServesWhole (F.serves shelf.old) name.now longest_piece
         → IfErr result (λ fault. fault ≢ ReadFault.Unreadable) }

@@ -1,4 +1,5 @@
--- What is left of a pool begins with the pitch of a number just where that is of the pool (`pool_head`, `head_is_of`).
+-- What is left of a pool begins with the pitch of a number just where that is of the pool
+-- (`pool_head`, `head_is_of`).
 use Rattle.std.specs.Prelude.{◌≡◌, ℕ, suc, ◌+◌, ◌-◌, ◌<◌, Bool, true, false, cond, List, [], ◌∷◌, map, refl}
 use Rattle.std.specs.List.{filter, range_with_len}
 use Rattle.std.proofs.Common.{arith, ap, ◌∙◌, true≢false}

@@ -1,5 +1,6 @@
--- What is written for a head that holds is a valid certificate (`written_is_valid`): the first claim of each list of pitches is true
--- (`first_claim_true`), since a whole lawful cantus is the head's, or no better.
+-- What is written for a head that holds is a valid certificate (`written_is_valid`): the first
+-- claim of each list of pitches is true (`first_claim_true`), since a whole lawful cantus is the
+-- head's, or no better.
 use Rattle.std.specs.Prelude.{◌≡◌, ◌≢◌, ◌⊎◌, ℕ, zero, suc, ◌+◌, ◌<◌, ◌≤◌, ◌==◌, nat_lt, Bool, true, false, not, ◌&&◌, ◌||◌, List, [], ◌∷◌, ◌++◌, Option, Some, None, length, map, reverse, refl, if◌then◌else◌}
 use Rattle.std.specs.List.{AllByRecursion, filter, find, list_any, range_with_len}
 use Rattle.std.specs.Option.{option_map_or}

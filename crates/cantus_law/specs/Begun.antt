@@ -1,5 +1,6 @@
--- What begins a lawful cantus: no rule is broken in it (`begun-unbroken`), its floor is at most the penalty (`begun-low`), and where it
--- isn't whole, the cantus goes on by a pitch of the next pool (`begun-longer`).
+-- What begins a lawful cantus: no rule is broken in it (`begun-unbroken`), its floor is at most the
+-- penalty (`begun-low`), and where it isn't whole, the cantus goes on by a pitch of the next pool
+-- (`begun-longer`).
 use Rattle.std.specs.Prelude.{◌≡◌, ◌⊎◌, ℕ, zero, suc, ◌+◌, ◌<◌, ◌≤◌, ◌==◌, Bool, true, false, cond, not, ◌||◌, if◌then◌else◌, List, [], ◌∷◌, ◌++◌, length, map, reverse, refl}
 use Rattle.std.specs.List.{filter, list_any, range_with_len}
 use Rattle.std.proofs.Common.{arith, inl, inr, ap, sym, ◌∙◌}

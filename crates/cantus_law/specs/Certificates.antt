@@ -1,5 +1,6 @@
--- Certificates of a cantus: a head and claims, those of the lists of pitches in preorder from the empty one, each of them true. What a
--- head says is refuted by some lawful cantus; a valid certificate shows that there is none.
+-- Certificates of a cantus: a head and claims, those of the lists of pitches in preorder from the
+-- empty one, each of them true. What a head says is refuted by some lawful cantus; a valid
+-- certificate shows that there is none.
 use Rattle.std.specs.Prelude.{◌≡◌, ◌<◌, ◌⊎◌, Bool, true, false, List, [], ◌++◌, None, Some, ⊤}
 use Rattle.cert_text.specs.declared.claim.Claim.{Claim}
 use Rattle.cert_text.specs.declared.claim.Claim.TheVariants.{Open, Broken, NoChain, Floor, TheScore}
@@ -35,7 +36,8 @@ abbrev pub Holds : CantusPlan → Said → Type 0
 Holds plan None = HasNoLawful plan
 Holds plan (Some best) = IsBest plan best.1 × (penalty_of plan best.1 ≡ best.0)
 
--- a cantus is better than the head's: it has a lesser penalty, or the same one and is earlier. Every cantus is better than none
+-- a cantus is better than the head's: it has a lesser penalty, or the same one and is earlier.
+-- Every cantus is better than none
 abbrev pub IsBetter : CantusPlan → Said → List Pitch → Type 0
 IsBetter plan None t = ⊤
 IsBetter plan (Some best) t =

@@ -1,4 +1,5 @@
--- Claims of pitches that may begin a cantus: what each of them says. Pitches go from the first bar on.
+-- Claims of pitches that may begin a cantus: what each of them says. Pitches go from the first bar
+-- on.
 use Rattle.std.specs.Prelude.{◌≡◌, ℕ, ◌+◌, ◌<◌, ◌⊎◌, Bool, IsTrue, List, [], ◌∷◌, ◌++◌, Option, None, Some, length, map, reverse}
 use Rattle.cert_text.specs.declared.claim.Claim.{Claim}
 use Rattle.cert_text.specs.declared.claim.Claim.TheVariants.{Open, Broken, NoChain, Floor, TheScore}
@@ -25,7 +26,8 @@ longer_lists plan ps = map (λ p. ps ++ p ∷ []) (pool_of plan (length ps + 1))
 abbrev pub has_break_of : CantusPlan → List Pitch → ℕ → Bool
 has_break_of plan ps rule = is_broken_in plan (reverse ps) rule
 
--- a floor is above the penalty of the head's cantus, or it is that penalty and the pitches are later in reading order
+-- a floor is above the penalty of the head's cantus, or it is that penalty and the pitches are
+-- later in reading order
 abbrev pub IsNoBetter : Said → List Pitch → ℕ → Type 0
 IsNoBetter None ps floor = ⊥
 IsNoBetter (Some best) ps floor = (best.0 < floor) ⊎ ((floor ≡ best.0) × IsEarlier best.1 ps)

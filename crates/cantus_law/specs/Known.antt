@@ -1,4 +1,5 @@
--- What is known of pitches of which a claim is judged, and how they are found by the numbers of pitches.
+-- What is known of pitches of which a claim is judged, and how they are found by the numbers of
+-- pitches.
 use Rattle.std.specs.Prelude.{◌≡◌, ℕ, ◌+◌, ◌≤◌, ◌&&◌, Bool, nat_lt, List, [], ◌∷◌, ◌++◌, None, Some, length, map, reverse}
 use Rattle.std.specs.declared.cmp.Ordering.{Ordering}
 use Rattle.std.specs.declared.cmp.Ordering.TheVariants.{Equal}
@@ -18,7 +19,8 @@ abbrev pub order_with : Said → List Pitch → Ordering
 order_with None ps = Equal
 order_with (Some best) ps = pitches_order best.1 ps
 
--- what rules and gauges keep of the pitches, the rules that are broken in them, and how the head's cantus goes against them
+-- what rules and gauges keep of the pitches, the rules that are broken in them, and how the head's
+-- cantus goes against them
 pub record IsJudged (plan : CantusPlan) (said : Said) (known : CantusKnown) (ps : List Pitch) : Type 0 where
   pub node : IsKnownOf plan (reverse ps) known.node
   pub broken : (rule : ℕ) → has_rule known.broken.bits rule ≡ has_break_of plan ps rule

@@ -1,5 +1,5 @@
--- Reading order of pitches: nothing is earlier than what is earlier than it (`earlier-reversed`), and of two lists of one length one is
--- earlier or they are equal (`earlier-cases`).
+-- Reading order of pitches: nothing is earlier than what is earlier than it (`earlier-reversed`),
+-- and of two lists of one length one is earlier or they are equal (`earlier-cases`).
 use Rattle.std.specs.Prelude.{◌≡◌, ◌⊎◌, List, [], ◌∷◌, ◌++◌, length, refl}
 use Rattle.std.specs.Ordering.{ordering_reverse}
 use Rattle.std.specs.declared.cmp.Ordering.{Ordering}

@@ -26,7 +26,8 @@ is_equal Less = false
 is_equal Equal = true
 is_equal Greater = false
 
--- how two lists go by the first pitch in which they differ; they are equal there where they differ in none that both have
+-- how two lists go by the first pitch in which they differ; they are equal there where they differ
+-- in none that both have
 abbrev pub pitches_order : List Pitch → List Pitch → Ordering
 pitches_order [] t = Equal
 pitches_order (p ∷ s) [] = Equal
@@ -47,8 +48,8 @@ is_no_better (Some best) ps floor =
 abbrev pub least_break : CantusPlan → List Pitch → Option ℕ
 least_break plan ps = find (has_break_of plan ps) rules_claimed
 
--- the first claim that is true of pitches: they are the head's cantus, a rule is broken, the floor is no better than the head's cantus;
--- else they are open
+-- the first claim that is true of pitches: they are the head's cantus, a rule is broken, the floor
+-- is no better than the head's cantus; else they are open
 abbrev pub unbroken_claim : CantusPlan → Said → List Pitch → Claim
 unbroken_claim plan said ps = if is_no_better said ps (floor_of plan (reverse ps)) then Floor else Open
 

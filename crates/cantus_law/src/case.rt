@@ -57,7 +57,8 @@ fn is_equal(order: Ordering) -> bool
     }
 }
 
-/// How a cantus goes against pitches and one more, where it goes against so many of them in this way.
+/// How a cantus goes against pitches and one more, where it goes against so many of them in this
+/// way.
 fn order_after(cantus: &[Pitch], len: usize, before: Ordering, pitch: Pitch) -> Ordering
     ensures { (ps : List APitch) → len ≡ length ps → before ≡ words.pitches_order cantus.now ps →
         result ≡ words.pitches_order cantus.now (ps ++ pitch ∷ []) }

@@ -4,8 +4,9 @@ use cantus_space::CantusNode;
 use rule_law::RuleSet;
 use std::cmp::Ordering;
 
-/// What is known of pitches: what rules and gauges keep of them, the rules that are broken in them, how the head's cantus goes against
-/// them by the first pitch in which they differ, and how many they are.
+/// What is known of pitches: what rules and gauges keep of them, the rules that are broken in them,
+/// how the head's cantus goes against them by the first pitch in which they differ, and how many
+/// they are.
 #[derive(Clone, Copy)]
 pub struct CantusKnown {
     pub node: CantusNode,

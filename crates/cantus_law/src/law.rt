@@ -10,8 +10,9 @@ ghost use Rattle.cantus_law.specs.Writer.{claims_of};
 use crate::case::CantusCase;
 use cantus_space::CantusSpace;
 
-/// What the head of a valid certificate says holds: its cantus is the best one and has its penalty, or no cantus is lawful. It does
-/// nothing; callers that prove something about a certificate learn this from it.
+/// What the head of a valid certificate says holds: its cantus is the best one and has its penalty,
+/// or no cantus is lawful. It does nothing; callers that prove something about a certificate learn
+/// this from it.
 pub fn shown_by(case: &CantusCase)
     ensures { (claims : List Claim) → IsCantusCertificate case.now.space case.now.head.best claims
         → Holds case.now.space case.now.head.best }
@@ -19,15 +20,17 @@ pub fn shown_by(case: &CantusCase)
     cert_tree::shown_by(case)
 }
 
-/// What the writer's certificate is: of a head that holds, it is valid. It does nothing, as `shown_by`.
+/// What the writer's certificate is: of a head that holds, it is valid. It does nothing, as
+/// `shown_by`.
 pub fn written(case: &CantusCase)
-    ensures { Holds case.now.space case.now.head.best
-        → IsCantusCertificate case.now.space case.now.head.best (claims_of case.now.space case.now.head.best) }
+    ensures { Holds case.now.space case.now.head.best → IsCantusCertificate case.now.space
+        case.now.head.best (claims_of case.now.space case.now.head.best) }
 {
     cert_tree::written(case)
 }
 
-/// The pool of each bar, as the claims go through it: exactly its pitches, in reading order. It does nothing, as `shown_by`.
+/// The pool of each bar, as the claims go through it: exactly its pitches, in reading order. It
+/// does nothing, as `shown_by`.
 pub fn pools_are_listed(space: &CantusSpace)
     ensures { (bar : ℕ) → ListsPool space.now bar (pool_of space.now bar) }
 {

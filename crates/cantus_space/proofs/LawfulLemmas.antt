@@ -1,4 +1,5 @@
--- What begins pitches that break no rule breaks none (`live_front`), and the floor of a whole cantus is its penalty (`floor-whole`).
+-- What begins pitches that break no rule breaks none (`live_front`), and the floor of a whole
+-- cantus is its penalty (`floor-whole`).
 use Rattle.std.specs.Prelude.{◌≡◌, ℕ, ◌+◌, ◌<◌, ◌≤◌, true, List, [], ◌∷◌, ◌++◌, drop, get_or, length, reverse, take}
 use Rattle.std.proofs.Common.{arith, ap, subst, sym, ◌∙◌}
 use Rattle.std.proofs.lemmas.Bool.{and_parts}

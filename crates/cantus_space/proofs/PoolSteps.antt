@@ -1,4 +1,5 @@
--- What is left of a pool from a number on: the pitch of the next number of the pool, and what is left behind it (`pool-at`).
+-- What is left of a pool from a number on: the pitch of the next number of the pool, and what is
+-- left behind it (`pool-at`).
 use Rattle.std.specs.Prelude.{◌≡◌, ℕ, zero, suc, ◌+◌, ◌-◌, ◌<◌, ◌≤◌, true, false, cond, List, [], ◌∷◌, map}
 use Rattle.std.specs.List.{filter, range_with_len}
 use Rattle.std.proofs.Common.{arith, ap, sym, ◌∙◌}

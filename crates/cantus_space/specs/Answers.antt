@@ -1,5 +1,5 @@
--- What a search for the best cantus tells within a budget, which is spent exactly where it must be. Loads are counted over the pitches of
--- their bars' pools that break no rule.
+-- What a search for the best cantus tells within a budget, which is spent exactly where it must be.
+-- Loads are counted over the pitches of their bars' pools that break no rule.
 use Rattle.std.specs.Prelude.{ℕ, List}
 use Rattle.fux_pitch.specs.declared.pitch.Pitch.{Pitch}
 use Rattle.tree_search.specs.Quests as quests

@@ -1,4 +1,5 @@
--- Which rules pitches break, counted by the numbers that claims have of them. Pitches go from the newest to the oldest.
+-- Which rules pitches break, counted by the numbers that claims have of them. Pitches go from the
+-- newest to the oldest.
 use Rattle.std.specs.Prelude.{ℕ, ◌+◌, ◌==◌, Bool, false, not, ◌&&◌, ◌||◌, List, [], ◌∷◌, length, if◌then◌else◌}
 use Rattle.std.specs.List.{list_any}
 use Rattle.fux_pitch.specs.declared.pitch.Pitch.{Pitch}

@@ -18,8 +18,8 @@ pub record IsPlan (plan : CantusPlan) : Type 0 where
 abbrev pub is_in_range : CantusPlan → Pitch → Bool
 is_in_range plan p = is_between plan.low plan.high p
 
--- the pitch is in the gamut of a bar, counted from 1, and in the range: a free voice of species 1 with this range may
--- start it there
+-- the pitch is in the gamut of a bar, counted from 1, and in the range: a free voice of species 1
+-- with this range may start it there
 abbrev pub may_sound : CantusPlan → ℕ → Pitch → Bool
 may_sound plan bar p = is_in_gamut plan.mode bar plan.bars p && is_in_range plan p
 
@@ -32,8 +32,8 @@ abbrev pub fits_within : CantusPlan → ℕ → Pitch → Bool
 fits_within plan bar p =
     if bar + 1 == plan.bars then may_sound plan bar p && is_step_above plan.mode p else may_sound plan bar p
 
--- the pitch is of the bar's pool: in the first and the last bar it is the final, in range, and in each other bar it
--- fits there
+-- the pitch is of the bar's pool: in the first and the last bar it is the final, in range, and in
+-- each other bar it fits there
 abbrev pub is_in_pool : CantusPlan → ℕ → Pitch → Bool
 is_in_pool plan bar p =
     if (bar == 1) || (bar == plan.bars) then is_in_range plan p && is_final_in plan.mode p

@@ -1,4 +1,5 @@
--- What pitches cost at least doesn't fall along a path, as a search asks of a space (`floors_grow`).
+-- What pitches cost at least doesn't fall along a path, as a search asks of a space
+-- (`floors_grow`).
 use Rattle.std.specs.Prelude.{◌≡◌, ℕ, ◌+◌, ◌<◌, ◌≤◌, ◌++◌, Bool, true, false, not, ◌&&◌, nat_lt, [], ◌∷◌, List, Some, None, length, reverse, if◌then◌else◌, refl}
 use Rattle.std.proofs.Common.{arith, sym, ap, ◌∙◌}
 use Rattle.std.proofs.lemmas.List.{length-map, length-reverse, map-append, reverse-append}

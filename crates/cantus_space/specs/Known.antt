@@ -1,5 +1,5 @@
--- What is known of any pitches, also where a rule is broken in them, and what comes next of a pool. Pitches go from the newest to the
--- oldest.
+-- What is known of any pitches, also where a rule is broken in them, and what comes next of a pool.
+-- Pitches go from the newest to the oldest.
 use Rattle.std.specs.Prelude.{◌≡◌, ℕ, ◌+◌, ◌-◌, ◌*◌, ◌<◌, ◌≤◌, List, [], ◌∷◌, Option, None, Some, length, map}
 use Rattle.std.specs.List.{filter, range_with_len}
 use Rattle.fux_pitch.specs.declared.pitch.Pitch.{Pitch}

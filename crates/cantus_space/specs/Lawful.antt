@@ -1,4 +1,5 @@
--- Which cantus is lawful, what it costs, and which is best. A cantus goes from the first bar to the last.
+-- Which cantus is lawful, what it costs, and which is best. A cantus goes from the first bar to the
+-- last.
 use Rattle.std.specs.Prelude.{◌≡◌, ℕ, ◌⊎◌, true, List, [], ◌∷◌, Some, length, reverse}
 use Rattle.std.specs.declared.cmp.Ordering.TheVariants.{Less}
 use Rattle.fux_pitch.specs.declared.pitch.Pitch.{Pitch}
@@ -8,7 +9,8 @@ use Rattle.tree_search.specs.Quests.{Quest}
 use Rattle.cantus_space.specs.declared.plan.CantusPlan.{CantusPlan}
 use Rattle.cantus_space.specs.Rules.{floor_of, is_live, whole_cost}
 
--- pitches from the first bar on begin a cantus so far as they go: each is of its bar's pool, and no rule is broken
+-- pitches from the first bar on begin a cantus so far as they go: each is of its bar's pool, and no
+-- rule is broken
 abbrev pub IsLive : CantusPlan → List Pitch → Type 0
 IsLive plan ps = is_live plan (reverse ps) ≡ true
 
@@ -21,13 +23,15 @@ pub record IsLawful (plan : CantusPlan) (cantus : List Pitch) : Type 0 where
 abbrev pub penalty_of : CantusPlan → List Pitch → ℕ
 penalty_of plan cantus = whole_cost plan.sheet (reverse cantus)
 
--- of two that differ in a bar, the one with the lower pitch at the first such difference comes first
+-- of two that differ in a bar, the one with the lower pitch at the first such difference comes
+-- first
 abbrev pub IsEarlier : List Pitch → List Pitch → Type 0
 IsEarlier ps [] = ⊥
 IsEarlier [] (q ∷ qs) = ⊥
 IsEarlier (p ∷ ps) (q ∷ qs) = (pitch_order p q ≡ Less) ⊎ ((p ≡ q) × IsEarlier ps qs)
 
--- the cantus that are sought: pitches are live where they begin a cantus, and cost at least their floor
+-- the cantus that are sought: pitches are live where they begin a cantus, and cost at least their
+-- floor
 abbrev pub quest_of : CantusPlan → Quest Pitch
 quest_of plan = record {
   IsLive = IsLive plan;

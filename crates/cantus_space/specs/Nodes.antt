@@ -14,7 +14,8 @@ use Rattle.cantus_space.specs.Rules.{is_live, paid}
 abbrev pub started : List Pitch → List Cell
 started ps = map Start ps
 
--- the node has these pitches, given from the newest to the oldest, and what rules and gauges keep of them
+-- the node has these pitches, given from the newest to the oldest, and what rules and gauges keep
+-- of them
 pub record HasPitches (behind : List Pitch) (node : CantusNode) : Type 0 where
   pub count : node.len ≡ length behind
   pub pitches : reverse (take node.len node.pitches) ≡ behind

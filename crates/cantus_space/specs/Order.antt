@@ -1,4 +1,5 @@
--- A lesser number's pitch is the lower one (`pitches_in_order`), and each pitch of a pool has a number (`has_number`).
+-- A lesser number's pitch is the lower one (`pitches_in_order`), and each pitch of a pool has a
+-- number (`has_number`).
 use Rattle.std.specs.Prelude.{◌≡◌, ℕ, ◌+◌, ◌-◌, ◌%◌, ◌<◌, ◌==◌, ◌||◌, ◌&&◌, pos, Bool, true, false, Option, Some, None, IsSome, refl}
 use Rattle.std.specs.Ordering.{int_eq, ordering_then, int_cmp, nat_cmp}
 use Rattle.std.specs.Cmp.{int_cmp_is}

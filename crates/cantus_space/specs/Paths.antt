@@ -1,4 +1,5 @@
--- Paths of child numbers, and the pitches that they lead to. A child's number is that of a pitch, by its key.
+-- Paths of child numbers, and the pitches that they lead to. A child's number is that of a pitch,
+-- by its key.
 use Rattle.std.specs.Prelude.{◌≡◌, ℕ, Bool, true, ◌&&◌, nat_lt, List, Option, Some, None, map, reverse, if◌then◌else◌}
 use Rattle.std.specs.List.{list_all}
 use Rattle.fux_pitch.specs.declared.pitch.Pitch.{Pitch}

@@ -1,4 +1,5 @@
--- The rules that a cantus keeps bar by bar, and what it costs. Pitches of bars go from the newest to the oldest.
+-- The rules that a cantus keeps bar by bar, and what it costs. Pitches of bars go from the newest
+-- to the oldest.
 use Rattle.std.specs.Prelude.{ℕ, ◌+◌, ◌-◌, ◌*◌, ◌==◌, Bool, true, not, ◌&&◌, ◌||◌, int_le, nat_lt, List, [], ◌∷◌, count_by, length, if◌then◌else◌}
 use Rattle.std.specs.Int.{from_bool}
 use Rattle.std.specs.List.{list_any, range_with_len, sum_by}
@@ -13,7 +14,8 @@ use Rattle.cantus_space.specs.declared.plan.CantusPlan.{CantusPlan}
 use Rattle.cantus_space.specs.Cantus.{is_in_pool, may_sound}
 use Rattle.cantus_space.specs.Numbers.{WIDTH, numbered_pitch}
 
--- S4 and S6 to S9. What else is asked of a cantus, S2 and its own forms K1 to K3, follows from the pools and S4
+-- S4 and S6 to S9. What else is asked of a cantus, S2 and its own forms K1 to K3, follows from the
+-- pools and S4
 abbrev pub rules : List ℕ
 rules = 4 ∷ 6 ∷ 7 ∷ 8 ∷ 9 ∷ []
 

@@ -38,7 +38,8 @@ fn count_ahead(plan: &CantusPlan, count: usize) -> u8
 /// For each number of bars, in how many of those after them some pitch may sound.
 pub fn starts_ahead(plan: &CantusPlan) -> [u8; 25]
     requires { IsPlan plan.now }
-    ensures { (count : ℕ) → count ≤ plan.now.bars → slice_index result count ≡ rules.starts_ahead plan.now count }
+    ensures { (count : ℕ) → count ≤ plan.now.bars → slice_index result count ≡ rules.starts_ahead
+        plan.now count }
 {
     let mut ahead = [0; 25];
     for count in 0..plan.bars as usize {

@@ -73,7 +73,8 @@ pub fn gauge_cost(sheet: &Sheet, said: Gauged) -> u64
     requires compass { said.compass ≤ 1000 }
     requires leaps { said.leaps ≤ 1000 }
     requires strikes { said.strikes ≤ 1000 }
-    ensures value { result ≡ rules.gauge_cost sheet.now said.climax said.compass said.leaps said.strikes }
+    ensures value { result ≡ rules.gauge_cost sheet.now said.climax said.compass said.leaps
+        said.strikes }
     ensures bound { result ≤ 262140000 }
 {
     gauge_charge(sheet, 17, said.climax)

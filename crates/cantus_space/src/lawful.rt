@@ -25,8 +25,8 @@ fn node_of(space: &CantusSpace, pitches: &[Pitch]) -> Option<CantusNode>
 
 /// The penalty of a cantus, where it is lawful.
 pub fn lawful_penalty(space: &CantusSpace, cantus: &[Pitch]) -> Option<u64>
-    ensures lawful { IfSome result
-        (λ penalty. IsLawful space.now cantus.now × (words.penalty_of space.now cantus.now ≡ penalty)) }
+    ensures lawful { IfSome result (λ penalty. IsLawful space.now cantus.now
+        × (words.penalty_of space.now cantus.now ≡ penalty)) }
     ensures none { result ≡ None → IsLawful space.now cantus.now → ⊥ }
 {
     if cantus.len() != space.plan().bars as usize {

@@ -1,5 +1,5 @@
-//! A new cantus as a tree: its live paths are the lists of pitches of their bars' pools that break no rule, and its leaves the lawful
-//! cantus.
+//! A new cantus as a tree: its live paths are the lists of pitches of their bars' pools that break
+//! no rule, and its leaves the lawful cantus.
 #![tactic(auto)]
 
 mod ahead;

@@ -19,7 +19,8 @@ use melody_rules::{
 };
 use penalty_sheet::Sheet;
 
-/// Pitches that begin a cantus and break no rule, what rules and gauges keep of them, and what they cost so far.
+/// Pitches that begin a cantus and break no rule, what rules and gauges keep of them, and what they
+/// cost so far.
 #[derive(Clone, Copy, Debug, PartialEq, Eq)]
 pub struct CantusNode {
     pub(crate) len: usize,
@@ -67,14 +68,16 @@ impl CantusNode {
     /// Whether a pitch may come after these.
     fn may_go_on(&self, plan: &CantusPlan, pitch: Pitch) -> bool
         requires room { self.now.len < plan.now.bars }
-        ensures { (behind : List APitch) → HasPitches behind self.now → result ≡ rules.may_come plan.now behind pitch }
+        ensures { (behind : List APitch) → HasPitches behind self.now → result
+            ≡ rules.may_come plan.now behind pitch }
     {
         is_in_pool(plan, self.len + 1, pitch) && !breaks_some_rule(&self.notes, pitch)
     }
 
     /// What a pitch after these costs.
     pub(crate) fn cost(&self, sheet: &Sheet, pitch: Pitch) -> u64
-        ensures value { (behind : List APitch) → HasPitches behind self.now → result ≡ rules.note_cost sheet.now behind pitch }
+        ensures value { (behind : List APitch) → HasPitches behind self.now → result
+            ≡ rules.note_cost sheet.now behind pitch }
         ensures bound { result ≤ 131070 }
     {
         note_cost(sheet, &self.notes, pitch)
@@ -83,7 +86,8 @@ impl CantusNode {
     /// How many notes are beyond the fourth of their pitch once one more of this pitch has come.
     fn beyond_with(&self, pitch: Pitch) -> u8
         requires { self.now.len < 24 }
-        ensures { (behind : List APitch) → HasPitches behind self.now → result ≡ beyond_fourth (pitch ∷ behind) }
+        ensures { (behind : List APitch) → HasPitches behind self.now → result
+            ≡ beyond_fourth (pitch ∷ behind) }
     {
         self.beyond
             .saturating_add(u8::from(times_struck(self.pitches(), pitch) >= 4))
@@ -93,7 +97,8 @@ impl CantusNode {
     pub(crate) fn with(&self, pitch: Pitch, cost: u64) -> CantusNode
         requires room { self.now.len < 24 }
         requires cost { self.now.paid + cost < 2 ^ 64 }
-        ensures pitches { (behind : List APitch) → HasPitches behind self.now → HasPitches (pitch ∷ behind) result }
+        ensures pitches { (behind : List APitch) → HasPitches behind self.now
+            → HasPitches (pitch ∷ behind) result }
         ensures paid { result.paid ≡ self.now.paid + cost }
     {
         let mut next = *self;
@@ -124,16 +129,17 @@ impl CantusNode {
 
     /// Whether no pitch above all of these can come, with so many bars ahead in which one may.
     fn is_last_climax(&self, plan: &CantusPlan, ahead: u8) -> bool
-        ensures { (behind : List APitch) → HasPitches behind self.now → ahead ≡ rules.starts_ahead plan.now (length behind) →
-            result ≡ rules.is_last_climax plan.now behind }
+        ensures { (behind : List APitch) → HasPitches behind self.now → ahead ≡ rules.starts_ahead
+            plan.now (length behind) → result ≡ rules.is_last_climax plan.now behind }
     {
         ahead == 0 || semitone(plan.high) <= self.climax.greatest
     }
 
     /// Q17.
     fn least_climax(&self, plan: &CantusPlan, ahead: u8) -> u32
-        ensures value { (behind : List APitch) → HasPitches behind self.now → ahead ≡ rules.starts_ahead plan.now (length behind) →
-            result ≡ rules.least_climax plan.now behind }
+        ensures value { (behind : List APitch) → HasPitches behind self.now → ahead
+            ≡ rules.starts_ahead plan.now (length behind) → result ≡ rules.least_climax plan.now
+            behind }
         ensures bound { result ≤ 255 }
     {
         if self.is_last_climax(plan, ahead) {
@@ -145,8 +151,9 @@ impl CantusNode {
 
     /// Q18.
     fn least_compass(&self, plan: &CantusPlan, ahead: u8) -> u32
-        ensures value { (behind : List APitch) → HasPitches behind self.now → ahead ≡ rules.starts_ahead plan.now (length behind) →
-            result ≡ rules.least_compass plan.now behind }
+        ensures value { (behind : List APitch) → HasPitches behind self.now → ahead
+            ≡ rules.starts_ahead plan.now (length behind) → result ≡ rules.least_compass plan.now
+            behind }
         ensures bound { result ≤ 1 }
     {
         let _ = plan;
@@ -163,8 +170,9 @@ impl CantusNode {
     /// The floor, with so many bars ahead in which a pitch may come.
     pub(crate) fn floor(&self, plan: &CantusPlan, ahead: u8) -> u64
         requires { self.now.paid < 2 ^ 63 }
-        ensures { (behind : List APitch) → HasPitches behind self.now → self.now.paid ≡ rules.paid plan.now.sheet behind →
-            ahead ≡ rules.starts_ahead plan.now (length behind) → result ≡ rules.floor_of plan.now behind }
+        ensures { (behind : List APitch) → HasPitches behind self.now → self.now.paid
+            ≡ rules.paid plan.now.sheet behind → ahead ≡ rules.starts_ahead plan.now (length behind)
+            → result ≡ rules.floor_of plan.now behind }
     {
         let said = Gauged {
             climax: self.least_climax(plan, ahead),

@@ -73,13 +73,15 @@ pub fn is_in_pool(plan: &CantusPlan, bar: usize, pitch: Pitch) -> bool
     }
 }
 
-/// The least number, from this one on, of a pitch of the bar's pool; the number of all where there is none.
+/// The least number, from this one on, of a pitch of the bar's pool; the number of all where there
+/// is none.
 pub fn next_of_pool(plan: &CantusPlan, bar: usize, from: usize) -> usize
     requires first { 1 ≤ bar }
     requires last { bar ≤ plan.now.bars }
     requires from { from ≤ 73 }
     ensures onward { from ≤ result }
-    ensures found { result < 73 → cantus.is_in_pool plan.now bar (numbers.numbered_pitch plan.now result) ≡ true }
+    ensures found { result < 73 → cantus.is_in_pool plan.now bar (numbers.numbered_pitch plan.now
+        result) ≡ true }
     ensures bound { result ≤ 73 }
     ensures passed { (k : ℕ) → from ≤ k → k < result →
         cantus.is_in_pool plan.now bar (numbers.numbered_pitch plan.now k) ≡ false }

@@ -15,8 +15,8 @@ use rule_law::RuleSet;
 use std::marker::Model;
 use tree_search::{QuestSpace, Space};
 
-/// The cantus that are as is asked, as a tree: a child adds the pitch of its number. It is dead where the pitch isn't of its bar's pool,
-/// or a rule is broken by it.
+/// The cantus that are as is asked, as a tree: a child adds the pitch of its number. It is dead
+/// where the pitch isn't of its bar's pool, or a rule is broken by it.
 #[derive(Drop)]
 pub struct CantusSpace {
     plan: CantusPlan,
@@ -36,12 +36,20 @@ impl Model for CantusSpace {
 }
 
 impl CantusSpace {
-    /// The space of the cantus of so many bars in a mode, from a low pitch to a high one, by a sheet. It takes no memory.
+    /// The space of the cantus of so many bars in a mode, from a low pitch to a high one, by a
+    /// sheet. It takes no memory.
     pub fn new(mode: Mode, bars: u8, low: Pitch, high: Pitch, sheet: &Sheet) -> CantusSpace
         requires fewest { 3 ≤ bars }
         requires most { bars ≤ 24 }
         requires rise { key_of low ≤ℤ key_of high }
-        ensures { result ≡ record { mode = mode; bars = bars; low = low; high = high; sheet = sheet.now } }
+        ensures { result ≡ record {
+          mode = mode;
+          bars = bars;
+          low = low;
+          high = high;
+          sheet
+              = sheet.now;
+        } }
     {
         let plan = CantusPlan {
             mode,
@@ -107,8 +115,8 @@ impl Space for CantusSpace {
     }
 }
 
-/// Its live paths are exactly the pitches of their bars' pools that break no rule, with children in reading order, and its leaves exactly
-/// the lawful cantus, with their penalties as values.
+/// Its live paths are exactly the pitches of their bars' pools that break no rule, with children in
+/// reading order, and its leaves exactly the lawful cantus, with their penalties as values.
 impl QuestSpace for CantusSpace {
     ghost use Rattle.fux_pitch.specs.declared.pitch.Pitch.{Pitch as APitch};
     ghost use Rattle.cantus_space.specs.Lawful.{quest_of};
@@ -144,7 +152,8 @@ impl CantusSpace {
     /// What is known of pitches and one more, of any pool and whatever it breaks.
     pub fn longer(&self, node: &CantusNode, pitch: Pitch) -> CantusNode
         requires { HasRoom self.now node.now }
-        ensures { (behind : List APitch) → IsKnownOf self.now behind node.now → IsKnownOf self.now (pitch ∷ behind) result }
+        ensures { (behind : List APitch) → IsKnownOf self.now behind node.now → IsKnownOf self.now
+            (pitch ∷ behind) result }
     {
         node.with(pitch, node.cost(&self.plan.sheet, pitch))
     }
@@ -152,7 +161,8 @@ impl CantusSpace {
     /// What pitches cost at least, however they go on.
     pub fn floor(&self, node: &CantusNode) -> u64
         requires { IsKnown self.now node.now }
-        ensures { (behind : List APitch) → IsKnownOf self.now behind node.now → result ≡ rules.floor_of self.now behind }
+        ensures { (behind : List APitch) → IsKnownOf self.now behind node.now → result
+            ≡ rules.floor_of self.now behind }
     {
         node.floor(&self.plan, self.ahead[node.len])
     }
@@ -160,8 +170,9 @@ impl CantusSpace {
     /// These rules, and those of S2, S4 and S6 to S9 that one more pitch breaks.
     pub fn broken_with(&self, broken: RuleSet, node: &CantusNode, pitch: Pitch) -> RuleSet
         requires { HasRoom self.now node.now }
-        ensures { (behind : List APitch) → IsKnownOf self.now behind node.now → (rule : ℕ) →
-            has_rule result.bits rule ≡ (has_rule broken.bits rule || is_broken_by self.now behind pitch rule) }
+        ensures { (behind : List APitch) → IsKnownOf self.now behind node.now → (rule : ℕ)
+            → has_rule result.bits rule ≡ (has_rule broken.bits rule || is_broken_by self.now behind
+            pitch rule) }
     {
         let bar = node.len as u8 + 1;
         let outside = !in_gamut(self.plan.mode, bar, self.plan.bars, pitch);

@@ -1,5 +1,5 @@
--- The row of a head has the texts of heads (`head-says`, `head-of`), none of which begins another one (`heads-alone`). What its pieces
--- read it reads, and where they stop it stops.
+-- The row of a head has the texts of heads (`head-says`, `head-of`), none of which begins another
+-- one (`heads-alone`). What its pieces read it reads, and where they stop it stops.
 use Rattle.std.proofs.Common.{◌≡◌, inl, inr, ℕ, ◌+◌, ◌-◌, ◌*◌, ◌<◌, ◌≤◌, Bool, true, false, List, [], ◌∷◌, ◌++◌, Some, None, length, length-append, refl, sym, ap, subst, ◌∙◌, append_assoc, arith}
 use Rattle.std.specs.Prelude.{◌==◌, codes}
 use Rattle.std.specs.Fmt.{decimal}

@@ -1,5 +1,6 @@
--- The row of names has the texts of pitches (`names-say`, `names-of`), and no such text begins another one (`names-alone`). What its
--- pieces read it reads (`names-end`, `names-more`), and where they stop it stops.
+-- The row of names has the texts of pitches (`names-say`, `names-of`), and no such text begins
+-- another one (`names-alone`). What its pieces read it reads (`names-end`, `names-more`), and where
+-- they stop it stops.
 use Rattle.std.proofs.Common.{◌≡◌, ◌≢◌, ℕ, zero, suc, ◌-◌, ◌≤◌, Bool, true, false, List, [], ◌∷◌, ◌++◌, length, map, refl, sym, ap, subst, ◌∙◌, append_assoc, append-nil, arith}
 use Rattle.fux_pitch.specs.declared.pitch.Pitch.{Pitch}
 use Rattle.fux_pitch.specs.Names.{name_of}

@@ -1,4 +1,5 @@
--- The text of a cantus certificate's head, where it stands at the front of bytes, and where bytes stop being the front of one.
+-- The text of a cantus certificate's head, where it stands at the front of bytes, and where bytes
+-- stop being the front of one.
 use Rattle.std.specs.Prelude.{◌≡◌, ◌⊎◌, ℕ, ◌<◌, ◌≤◌, ◌^◌, ⊤, List, [], ◌∷◌, ◌++◌, Option, None, Some, Result, MatchResult, codes, length, map}
 use Rattle.std.specs.Fmt.{decimal}
 use Rattle.fux_pitch.specs.declared.pitch.Pitch.{Pitch}

@@ -33,8 +33,9 @@ fn head_of(penalty: Option<u64>, pitches: Vec<Pitch>) -> CantusHead
 
 /// The head at the front of a certificate, and its length.
 ///
-/// It is refused at the first byte by which no head goes on, or at the end of bytes that end within a head. Whether its cantus is
-/// lawful, and has the penalty, isn't judged here. What stands behind a head isn't looked at.
+/// It is refused at the first byte by which no head goes on, or at the end of bytes that end within
+/// a head. Whether its cantus is lawful, and has the penalty, isn't judged here. What stands behind
+/// a head isn't looked at.
 pub fn cantus_head(alloc: Global, bytes: &[u8]) -> Result<(CantusHead, usize), CertFault>
     // A head that is answered stands at the front, and a fault is where no head goes on.
     ensures ok { IfOk result (λ found. Stands IsHeadText bytes.now found.0.best found.1) }
@@ -56,7 +57,8 @@ pub fn cantus_head(alloc: Global, bytes: &[u8]) -> Result<(CantusHead, usize), C
     }
 }
 
-/// The text of a head. Where it says at most 24 pitches, and no fewer than three, it is read back by [`cantus_head`].
+/// The text of a head. Where it says at most 24 pitches, and no fewer than three, it is read back
+/// by [`cantus_head`].
 pub fn cantus_head_text(alloc: Global, head: &CantusHead) -> Result<String, Memory>
     ensures { IfOk result (λ text. string_bytes text ≡ words.head_text head.now.best) }
 {

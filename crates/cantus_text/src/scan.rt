@@ -1,5 +1,6 @@
-//! Reading the text of a head, piece by piece. Each function reads what stands at the front of the bytes and gives the bytes behind it,
-//! or says how many bytes are left where no such text goes on. Pitches are put behind those that were read.
+//! Reading the text of a head, piece by piece. Each function reads what stands at the front of the
+//! bytes and gives the bytes behind it, or says how many bytes are left where no such text goes on.
+//! Pitches are put behind those that were read.
 
 ghost use Rattle.std.specs.Prelude.{◌≡◌, ◌+◌, ◌≤◌, [], IfErr, IfOk, length, vec_capacity};
 ghost use Rattle.cert_text.specs.Pieces.{Reads, Stops};
@@ -14,7 +15,8 @@ const FEWEST_PITCHES: u8 = 3;
 /// How many pitches a cantus has at most.
 pub const MOST_PITCHES: u8 = 24;
 
-/// Reads what stands between two names or behind the last one, where so many are owed: whether another one comes.
+/// Reads what stands between two names or behind the last one, where so many are owed: whether
+/// another one comes.
 fn between(bytes: &[u8], owed: u8) -> Result<(bool, &[u8]), usize>
     ensures ok { IfOk result (λ found. Reads (Between owed) bytes.now found.0 found.1.now) }
     ensures err { IfErr result (λ left. Stops (Between owed) bytes.now left) }
@@ -31,7 +33,8 @@ fn between(bytes: &[u8], owed: u8) -> Result<(bool, &[u8]), usize>
     Err(bytes.len())
 }
 
-/// Reads the names of pitches through the end of their line: no fewer than are owed, and no more than may come.
+/// Reads the names of pitches through the end of their line: no fewer than are owed, and no more
+/// than may come.
 fn names<'a>(
     bytes: &'a [u8],
     owed: u8,
@@ -74,7 +77,8 @@ fn best<'a>(bytes: &'a [u8], pitches: &mut Vec<Pitch>) -> Result<(u64, &'a [u8])
 fn kind<'a>(bytes: &'a [u8], pitches: &mut Vec<Pitch>) -> Result<(Option<u64>, &'a [u8]), usize>
     requires empty { pitches.old.items ≡ [] }
     requires room { vec_capacity pitches.old ≡ 24 }
-    ensures ok { IfOk result (λ found. Reads KindsRow bytes.now (said_of found.0 pitches.new.items) found.1.now) }
+    ensures ok { IfOk result (λ found. Reads KindsRow bytes.now (said_of found.0 pitches.new.items)
+        found.1.now) }
     ensures err { IfErr result (λ left. Stops KindsRow bytes.now left) }
 {
     let Some((byte, behind)) = next(bytes) else {
@@ -98,7 +102,8 @@ pub fn scan_head<'a>(
 ) -> Result<(Option<u64>, &'a [u8]), usize>
     requires empty { pitches.old.items ≡ [] }
     requires room { vec_capacity pitches.old ≡ 24 }
-    ensures ok { IfOk result (λ found. Reads HeadRow bytes.now (said_of found.0 pitches.new.items) found.1.now) }
+    ensures ok { IfOk result (λ found. Reads HeadRow bytes.now (said_of found.0 pitches.new.items)
+        found.1.now) }
     ensures err { IfErr result (λ left. Stops HeadRow bytes.now left) }
 {
     let second = fixed(bytes, b"fux-cantus-cert 1\n")?;

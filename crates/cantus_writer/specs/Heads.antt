@@ -1,4 +1,5 @@
--- What the head says of a cantus with its penalty, or of none; and how the writing of a certificate ends.
+-- What the head says of a cantus with its penalty, or of none; and how the writing of a certificate
+-- ends.
 use Rattle.std.specs.Prelude.{◌≡◌, ◌⊎◌, ℕ, List, Option, None, Some, Result, Err}
 use Rattle.std.specs.Borrow.{Bor}
 use Rattle.cert_text.specs.declared.answers.CertWrite.{CertWrite}

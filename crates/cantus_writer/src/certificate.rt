@@ -27,7 +27,8 @@ fn write_for_case<K: Sink>(alloc: Global, case: &CantusCase, sink: &mut K) -> Re
         ≡ appended (K.written sink.old) (written_certificate case.now.space case.now.head.best)) }
 
     // A fault of writing is the sink's, and less than the certificate was written.
-    ensures cause { result ≡ Err CertWrite.WriteFault → Rose (K.faults sink.old) (K.faults sink.new) }
+    ensures cause { result ≡ Err CertWrite.WriteFault → Rose (K.faults sink.old)
+        (K.faults sink.new) }
     ensures short { FailsShort (K.written sink.old) (K.written sink.new)
         (written_certificate case.now.space case.now.head.best) result }
 
@@ -38,7 +39,8 @@ fn write_for_case<K: Sink>(alloc: Global, case: &CantusCase, sink: &mut K) -> Re
     // Nothing is written of a certificate that is too long, nor where there is not enough memory.
     ensures too_long { result ≡ Err CertWrite.TooLong
         → 1073741824 < length (written_certificate case.now.space case.now.head.best) }
-    ensures fits { 1073741824 < length (written_certificate case.now.space case.now.head.best) → EndsUnwritten result }
+    ensures fits { 1073741824 < length (written_certificate case.now.space case.now.head.best)
+        → EndsUnwritten result }
     ensures unwritten { EndsUnwritten result → K.written sink.new ≡ K.written sink.old }
     ensures faults { K.faults sink.old ≤ K.faults sink.new }
 {
@@ -59,9 +61,10 @@ fn write_for_case<K: Sink>(alloc: Global, case: &CantusCase, sink: &mut K) -> Re
     }
 }
 
-/// Writes the certificate of the best cantus with its penalty, or the one that says that no cantus is lawful. Its length is counted before
-/// its first byte is written, and all memory is taken before that; then each list is judged once more, so that a certificate of any length
-/// takes no more memory than a short one.
+/// Writes the certificate of the best cantus with its penalty, or the one that says that no cantus
+/// is lawful. Its length is counted before its first byte is written, and all memory is taken
+/// before that; then each list is judged once more, so that a certificate of any length takes no
+/// more memory than a short one.
 pub fn certify_cantus<K: Sink>(
     alloc: Global,
     space: &CantusSpace,
@@ -73,21 +76,24 @@ pub fn certify_cantus<K: Sink>(
         ≡ appended (K.written sink.old) (written_certificate space.now (said_with best.entry))) }
 
     // A fault of writing is the sink's, and less than the certificate was written.
-    ensures cause { result ≡ Err CertWrite.WriteFault → Rose (K.faults sink.old) (K.faults sink.new) }
+    ensures cause { result ≡ Err CertWrite.WriteFault → Rose (K.faults sink.old)
+        (K.faults sink.new) }
     ensures short { FailsShort (K.written sink.old) (K.written sink.new)
         (written_certificate space.now (said_with best.entry)) result }
 
     // No sink is blamed that promises to take the whole certificate.
-    ensures taken { K.serves sink.old (length (written_certificate space.now (said_with best.entry)))
-        → result ≢ Err CertWrite.WriteFault }
+    ensures taken { K.serves sink.old (length (written_certificate space.now (said_with best.entry))) → result
+        ≢ Err CertWrite.WriteFault }
 
     // The certificate is valid.
-    ensures valid { IsCantusCertificate space.now (said_with best.entry) (claims_of space.now (said_with best.entry)) }
+    ensures valid { IsCantusCertificate space.now (said_with best.entry)
+        (claims_of space.now (said_with best.entry)) }
 
     // Nothing is written of a certificate that is too long, nor where there is not enough memory.
     ensures too_long { result ≡ Err CertWrite.TooLong
         → 1073741824 < length (written_certificate space.now (said_with best.entry)) }
-    ensures fits { 1073741824 < length (written_certificate space.now (said_with best.entry)) → EndsUnwritten result }
+    ensures fits { 1073741824 < length (written_certificate space.now (said_with best.entry))
+        → EndsUnwritten result }
     ensures unwritten { EndsUnwritten result → K.written sink.new ≡ K.written sink.old }
     ensures faults { K.faults sink.old ≤ K.faults sink.new }
 {

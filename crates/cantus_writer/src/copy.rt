@@ -31,7 +31,8 @@ fn head_of(alloc: Global, best: Option<(&[Pitch], u64)>) -> Result<CantusHead, M
     Ok(CantusHead { best })
 }
 
-/// What is written about: a space of the cantus of another one, and the head of what was found in it.
+/// What is written about: a space of the cantus of another one, and the head of what was found in
+/// it.
 pub(crate) fn case_of(
     alloc: Global,
     space: &CantusSpace,

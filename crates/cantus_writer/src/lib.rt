@@ -1,4 +1,5 @@
-//! The writer of cantus certificates: for each list of pitches that is owed it writes the first claim that is true of it.
+//! The writer of cantus certificates: for each list of pitches that is owed it writes the first
+//! claim that is true of it.
 #![tactic(auto)]
 
 mod beginning;

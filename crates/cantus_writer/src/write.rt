@@ -15,11 +15,13 @@ use fux_port::{Failed, Sink, put, write_all};
 /// The most bytes that a certificate may have.
 const MOST_BYTES: usize = 1_073_741_824;
 
-/// Whether the lines of the claims that are still to come have no more than so many bytes. It stops at the first line that is too much.
+/// Whether the lines of the claims that are still to come have no more than so many bytes. It stops
+/// at the first line that is too much.
 fn fit(walk: &mut Walk<CantusKnown>, case: &CantusCase, room: usize) -> bool
     requires { IsWriting case.now.space case.now.head.best walk.old }
     ensures writing { IsWriting case.now.space case.now.head.best walk.new }
-    ensures fits { IsTrue result ↔ (length (lines_left case.now.space case.now.head.best walk.old) ≤ room) }
+    ensures fits { IsTrue result ↔ (length (lines_left case.now.space case.now.head.best walk.old)
+        ≤ room) }
 {
     let mut left = room;
     while let Some(claim) = next_claim(walk, case) {
@@ -49,12 +51,13 @@ fn write_claims<K: Sink>(
     sink: &mut K,
 ) -> Result<(), Failed>
     requires { IsWriting case.now.space case.now.head.best walk.old }
-    ensures ok { OnOk result
-        (K.written sink.new ≡ appended (K.written sink.old) (lines_left case.now.space case.now.head.best walk.old)) }
+    ensures ok { OnOk result (K.written sink.new ≡ appended (K.written sink.old)
+        (lines_left case.now.space case.now.head.best walk.old)) }
     ensures cause { OnErr result (Rose (K.faults sink.old) (K.faults sink.new)) }
-    ensures err { OnErr result
-        (StopsShort (K.written sink.old) (K.written sink.new) (lines_left case.now.space case.now.head.best walk.old)) }
-    ensures taken { K.serves sink.old (length (lines_left case.now.space case.now.head.best walk.old)) → IsOk result }
+    ensures err { OnErr result (StopsShort (K.written sink.old) (K.written sink.new)
+        (lines_left case.now.space case.now.head.best walk.old)) }
+    ensures taken { K.serves sink.old (length (lines_left case.now.space case.now.head.best walk.old))
+        → IsOk result }
     ensures faults { K.faults sink.old ≤ K.faults sink.new }
 {
     let mut waiting: ArrayString<4096> = ArrayString::new();
@@ -72,13 +75,13 @@ pub(crate) fn write_parts<K: Sink>(
     sink: &mut K,
 ) -> Result<(), Failed>
     requires { IsWriting case.now.space case.now.head.best walk.old }
-    ensures ok { OnOk result (K.written sink.new
-        ≡ appended (K.written sink.old) (text.now ++ lines_left case.now.space case.now.head.best walk.old)) }
+    ensures ok { OnOk result (K.written sink.new ≡ appended (K.written sink.old)
+        (text.now ++ lines_left case.now.space case.now.head.best walk.old)) }
     ensures cause { OnErr result (Rose (K.faults sink.old) (K.faults sink.new)) }
     ensures err { OnErr result (StopsShort (K.written sink.old) (K.written sink.new)
         (text.now ++ lines_left case.now.space case.now.head.best walk.old)) }
-    ensures taken { K.serves sink.old (length (text.now ++ lines_left case.now.space case.now.head.best walk.old))
-        → IsOk result }
+    ensures taken { K.serves sink.old (length (text.now ++ lines_left case.now.space case.now.head.best
+        walk.old)) → IsOk result }
     ensures faults { K.faults sink.old ≤ K.faults sink.new }
 {
     write_all(sink, text.as_bytes())?;

@@ -1,4 +1,5 @@
-//! An exercise without a lawful setting: its certificate has one claim, that no chain goes to the end.
+//! An exercise without a lawful setting: its certificate has one claim, that no chain goes to the
+//! end.
 
 use cert_check::{Checker, Checks, Reader, Verdict, check_file, start, verdict_text};
 use cert_text::{Accepted, Form};
@@ -45,7 +46,8 @@ fn a_file_of_the_second_form_is_judged(rt: HostRuntime) -> Result<(), Fail> {
         return Err("no exercise".into());
     };
     let sheet = default_sheet();
-    // No chain goes on from the start and from the columns of bars 1 and 2, and nothing is behind those of bar 3.
+    // No chain goes on from the start and from the columns of bars 1 and 2, and nothing is behind
+    // those of bar 3.
     let mut text = String::new(alloc);
     text.push_str("fux-cert 2\nnone\npotentials\n")?;
     for number in 0..73 {

@@ -1,5 +1,5 @@
-//! Entries of an exercise without a lawful setting: no chain goes on from the start and from the columns of bars 1 and 2, and those
-//! behind the columns of bar 3 cost nothing.
+//! Entries of an exercise without a lawful setting: no chain goes on from the start and from the
+//! columns of bars 1 and 2, and those behind the columns of bar 3 cost nothing.
 
 ghost use Rattle.cert_text.specs.Potentials.{IsPotential};
 ghost use Rattle.fux_grid.specs.Exercises.{IsValid};
@@ -77,8 +77,9 @@ fn the_first_entry_that_is_not_true_is_refused(rt: HostRuntime) -> Result<(), Fa
         return Err("no exercise".into());
     };
     let sheet = default_sheet();
-    // What is changed, and what is refused then. A number for the start is true where no chain goes on from it. One for the last column
-    // of bar 2 is true too, but then a chain goes on from the column before, which holds the same note.
+    // What is changed, and what is refused then. A number for the start is true where no chain goes
+    // on from it. One for the last column of bar 2 is true too, but then a chain goes on from the
+    // column before, which holds the same note.
     let changes = [
         (1, Potential::Least(7), 0),
         (49, Potential::Least(u32::MAX), 46),

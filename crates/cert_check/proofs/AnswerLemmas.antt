@@ -1,5 +1,5 @@
--- What is answered where no head stands at the front (`starts_answer`), where the head isn't sound (`opening_answer`), and where claims are
--- judged (`judged_answer`).
+-- What is answered where no head stands at the front (`starts_answer`), where the head isn't sound
+-- (`opening_answer`), and where claims are judged (`judged_answer`).
 use Rattle.std.proofs.Common.{◌≡◌, ◌⊎◌, ◌-◌, inl, inr, arith, append-nil, length, ℕ, List, None, Result, Ok, Err, refl, ap, subst, sym}
 use Rattle.std.specs.Prelude.{IfErr, OnOk}
 use Rattle.cert_check.specs.declared.checker.OpenFault.{OpenFault}
@@ -70,7 +70,8 @@ module _ (ex : Exercise) (sheet : Sheet) (files : Files) (name : List ℕ) (rose
       unsound_answer form head piece refused started why
   opening_answer form head piece opening.Memory started why = tt
 
-  -- the same, where the files are those of before, and a count of faults that rose since rose from before
+  -- the same, where the files are those of before, and a count of faults that rose since rose from
+  -- before
   pub answers_moved : (earlier : Files) (first : Type 0) (result : Result Verdict CheckFault) → files ≡ earlier
       → (rose → first)
       → Answers ex sheet files name rose result → Answers ex sheet earlier name first result

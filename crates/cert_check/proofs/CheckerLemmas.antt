@@ -1,6 +1,7 @@
--- What a checker of certificates on settings answers and keeps: a claim that is taken (`taken_by`) or refused (`refused_as`), and what is
--- shown and certified where claims end (`head_holds`, `certified_by`, `none_certified_by`).
-use Rattle.std.proofs.Common.{◌≡◌, List, [], Option, None, sym, subst}
+-- What a checker of certificates on settings answers and keeps: a claim that is taken (`taken_by`)
+-- or refused (`refused_as`), and what is shown and certified where claims end (`head_holds`,
+-- `certified_by`, `none_certified_by`).
+use Rattle.std.proofs.Common.{◌≡◌, List, [], None, subst}
 use Rattle.std.specs.Prelude.{IfSome}
 use Rattle.cert_text.specs.declared.claim.Claim.{Claim}
 use Rattle.cert_tree.specs.Judgings.{IsFedCertified, IsFedNone, Refuses as TreeRefuses, Standing, Takes as TreeTakes, standing_of}

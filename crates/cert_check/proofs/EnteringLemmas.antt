@@ -1,6 +1,7 @@
--- Behind a head of the second form a reader of entries stands (`first_entered`); each entry is taken (`entered_more`), then the line `claims`
--- (`entered_whole`), behind which a reader of claims stands (`claims_opened`), or the text has a fault (`entered_fault`).
-use Rattle.std.proofs.Common.{◌≡◌, ℕ, ◌-◌, ◌<◌, ◌≤◌, inl, inr, true, false, nat_lt, List, [], ◌∷◌, ◌++◌, Option, Some, Result, Ok, Err, length, refl, sym, ap, subst, ◌∙◌, arith, append_assoc, append-nil, length-append}
+-- Behind a head of the second form a reader of entries stands (`first_entered`); each entry is
+-- taken (`entered_more`), then the line `claims` (`entered_whole`), behind which a reader of claims
+-- stands (`claims_opened`), or the text has a fault (`entered_fault`).
+use Rattle.std.proofs.Common.{◌≡◌, ℕ, ◌-◌, ◌<◌, ◌≤◌, inl, true, false, nat_lt, List, [], ◌∷◌, ◌++◌, Option, Some, Result, Ok, Err, length, refl, sym, ap, subst, ◌∙◌, arith, append_assoc, append-nil, length-append}
 use Rattle.std.proofs.lemmas.Bool.Decides.{nat_tests}
 use Rattle.std.proofs.lemmas.List.{flat_map_more}
 use Rattle.std.specs.List.{AllByRecursion, flat_map}

@@ -1,6 +1,7 @@
--- At most one opening stands at the front of bytes (`openings-alone`), and bytes are refused before any claim in one way, if they are
--- (`settings_once`). So bytes have one verdict (`one_verdict`), and the text of a valid certificate is accepted (`accepted_answer`).
-use Rattle.std.proofs.Common.{◌≡◌, ℕ, ◌+◌, ◌<◌, ◌≤◌, Bool, true, false, nat_lt, List, [], ◌∷◌, ◌++◌, Option, None, Some, Result, Ok, Err, length, take, drop, inl, inr, refl, sym, ap, subst, ◌∙◌, arith, append_assoc, append-nil, length-append}
+-- At most one opening stands at the front of bytes (`openings-alone`), and bytes are refused before
+-- any claim in one way, if they are (`settings_once`). So bytes have one verdict (`one_verdict`),
+-- and the text of a valid certificate is accepted (`accepted_answer`).
+use Rattle.std.proofs.Common.{◌≡◌, ℕ, ◌+◌, ◌<◌, ◌≤◌, Bool, true, false, nat_lt, List, [], ◌++◌, Option, None, Some, Result, Ok, Err, length, take, drop, inl, inr, refl, sym, ap, subst, ◌∙◌, arith, append_assoc, append-nil, length-append}
 use Rattle.std.specs.Prelude.{IfOk, IfSome, if◌then◌else◌}
 use Rattle.std.proofs.lemmas.Bool.Decides.{nat_tests}
 use Rattle.std.proofs.lemmas.List.{append_cancel_left, take_all, take-append-drop}
@@ -8,7 +9,7 @@ use Rattle.std.proofs.Math.Seq.{take-append_seam}
 use Rattle.std.specs.List.{flat_map}
 use Rattle.std.specs.Io.{StartsWith}
 use Rattle.cert_check.specs.Answers.{Answers}
-use Rattle.cert_check.specs.Settings.{AcceptsValid, AreStated, HasStatedFault, HasUntrue, IsOpeningOf, IsOpeningText, IsSound, IsUnsound, IsVerdictOn, Opening, Refuses, RefusesFront, form_of, setting_subject}
+use Rattle.cert_check.specs.Settings.{AcceptsValid, AreStated, HasStatedFault, HasUntrue, IsOpeningOf, IsOpeningText, IsUnsound, IsVerdictOn, Opening, Refuses, RefusesFront, form_of, setting_subject}
 use Rattle.cert_check.specs.declared.checking.CheckFault.{CheckFault}
 use Rattle.cert_check.proofs.StartLemmas.{at_front}
 use Rattle.cert_check.proofs.ToldEntries.{Ends, IsStatedTold, Last, NotEnded, NotOwed, one_stated}

@@ -1,5 +1,5 @@
--- How the reading of a file starts: behind its head (`started`), or where a head stops (`head_stops`). A head that a front is stands at
--- the front of all bytes (`at_front`).
+-- How the reading of a file starts: behind its head (`started`), or where a head stops
+-- (`head_stops`). A head that a front is stands at the front of all bytes (`at_front`).
 use Rattle.std.proofs.Common.{◌≡◌, ℕ, ◌⊎◌, inl, inr, ◌++◌, Err, List, length, take, drop, sym, ap, subst, ◌∙◌, arith, length-drop}
 use Rattle.std.proofs.lemmas.List.{length-take-le, take-append-drop, take_all}
 use Rattle.fux_grid.specs.declared.exercise.Exercise.{Exercise}

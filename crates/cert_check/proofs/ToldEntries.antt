@@ -1,10 +1,10 @@
--- What is told behind a head of the second form, of the first line that isn't owed or of the first entry that isn't true, is told of one
--- list of entries (`one_stated`); nothing is, where what is stated is whole and true.
+-- What is told behind a head of the second form, of the first line that isn't owed or of the first
+-- entry that isn't true, is told of one list of entries (`one_stated`); nothing is, where what is
+-- stated is whole and true.
 use Rattle.std.proofs.Common.{◌≡◌, ℕ, ◌+◌, ◌<◌, ◌≤◌, ◌⊎◌, inl, inr, ⊎_elim, Bool, true, false, nat_lt, true≢false, List, ◌++◌, Option, None, Some, length, refl, sym, ap, subst, ◌∙◌, arith}
 use Rattle.std.specs.Prelude.{if◌then◌else◌}
 use Rattle.std.proofs.lemmas.Bool.{cases_lt}
 use Rattle.std.proofs.lemmas.Bool.Decides.{nat_tests}
-use Rattle.std.proofs.lemmas.List.{append_cancel_left}
 use Rattle.std.specs.List.{AllByRecursion, flat_map}
 use Rattle.cert_file.specs.Readings.{IsUnendedLine, IsWrongLine, Stated, longest_certificate}
 use Rattle.cert_file.specs.declared.verdict.Verdict.{Verdict}

@@ -21,15 +21,16 @@ use Rattle.fux_grid.specs.declared.cell.Cell.{Cell}
 use Rattle.fux_grid.specs.declared.exercise.Exercise.{Exercise}
 use Rattle.penalty_sheet.specs.declared.sheet.Sheet.{Sheet}
 
--- a fault tells its cause: the first menu that is too wide; or, where none is, a head that isn't sound, refused before any claim
+-- a fault tells its cause: the first menu that is too wide; or, where none is, a head that isn't
+-- sound, refused before any claim
 abbrev pub TellsWhy : Exercise → Sheet → CertHead → OpenFault → Type 0
 TellsWhy ex sheet head (TooWide place count) = IsTooWide ex place count
 TellsWhy ex sheet head (Refused refused) =
     AreNarrow ex × (IsHeadSound ex sheet head → ⊥) × (refused ≡ record { number = 0; why = Head })
 TellsWhy ex sheet head Memory = ⊤
 
--- what each checker keeps: entries that are stated are true, and as long as no claim was refused, each setting that refutes the head
--- is begun by a prefix that is owed
+-- what each checker keeps: entries that are stated are true, and as long as no claim was refused,
+-- each setting that refutes the head is begun by a prefix that is owed
 pub record IsChecking (t : Matter) (basis : Basis) (judging : Judging PrefixKnown) : Type 0 where
   pub case : IsCase t
   pub has : HasTails t basis

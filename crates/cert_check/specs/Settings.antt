@@ -1,4 +1,5 @@
--- Certificates on settings as a subject: a head and, in the second form, entries stand in front of claims, which are of prefixes.
+-- Certificates on settings as a subject: a head and, in the second form, entries stand in front of
+-- claims, which are of prefixes.
 use Rattle.std.specs.Prelude.{◌≡◌, ℕ, ◌+◌, ◌≤◌, ⊤, List, [], ◌++◌, Option, None, Some, IfSome, length, nat_lt}
 use Rattle.std.specs.Io.{StartsWith}
 use Rattle.std.specs.List.{AllByRecursion, flat_map}
@@ -41,13 +42,14 @@ abbrev pub form_of : Option (List Potential) → Form
 form_of None = First
 form_of (Some entries) = Second
 
--- a certificate of the second form states a number below 2^32, or `n`, for the start and for each column of the menus
+-- a certificate of the second form states a number below 2^32, or `n`, for the start and for each
+-- column of the menus
 abbrev pub AreStated : Exercise → Option (List Potential) → Type 0
 AreStated ex None = ⊤
 AreStated ex (Some entries) = (length entries ≡ entry_count ex) × AllByRecursion IsPotential entries
 
--- the text of a head and of what is stated, through the line `claims`; in the first form the head has
--- that line
+-- the text of a head and of what is stated, through the line `claims`; in the first form the head
+-- has that line
 pub record IsOpeningOf (ex : Exercise) (head : CertHead) (stated : Option (List Potential)) (bytes : List ℕ) : Type 0
   where
     pub front : List ℕ
@@ -84,7 +86,8 @@ pub record IsUnsound (ex : Exercise) (sheet : Sheet) (head : CertHead) (number :
   pub heads : Heads ex form front head (length front)
   pub unsound : IsHeadSound ex sheet head → ⊥
 
--- behind a sound head stands the text of what is stated, and the entry of this number is the first that isn't true
+-- behind a sound head stands the text of what is stated, and the entry of this number is the first
+-- that isn't true
 pub record HasUntrue (ex : Exercise) (sheet : Sheet) (head : CertHead) (number : ℕ) (bytes : List ℕ) : Type 0 where
   pub sound : IsHeadSound ex sheet head
   pub entries : List Potential
@@ -95,8 +98,8 @@ pub record HasUntrue (ex : Exercise) (sheet : Sheet) (head : CertHead) (number :
   pub numbered : number ≡ before + 1
   pub first : IsFirstFalse ex sheet entries before
 
--- behind a sound head and some entries, each of them a number or `n`, stands a line that isn't the one owed: that of an entry, or the
--- line `claims` where there are as many as there are to be
+-- behind a sound head and some entries, each of them a number or `n`, stands a line that isn't the
+-- one owed: that of an entry, or the line `claims` where there are as many as there are to be
 pub record HasStatedFault (ex : Exercise) (sheet : Sheet) (head : CertHead) (fault : CertFault) (bytes : List ℕ) : Type
     0 where
   pub sound : IsHeadSound ex sheet head
@@ -114,8 +117,8 @@ RefusesFront ex sheet head number whys.Head bytes = IsUnsound ex sheet head numb
 RefusesFront ex sheet head number whys.Potential bytes = HasUntrue ex sheet head number bytes
 RefusesFront ex sheet head number why bytes = ⊥
 
--- what a verdict says of bytes whose front is refused: no head stands there, the head isn't sound, an entry isn't true, or a line isn't
--- the one that is owed
+-- what a verdict says of bytes whose front is refused: no head stands there, the head isn't sound,
+-- an entry isn't true, or a line isn't the one that is owed
 abbrev pub Refuses : Exercise → Sheet → Verdict → List ℕ → Type 0
 Refuses ex sheet (verdict.Text (WrongHead at)) bytes = TextStops ex Second bytes at
 Refuses ex sheet (verdict.Text fault) bytes = (head : CertHead) × HasStatedFault ex sheet head fault bytes

@@ -1,4 +1,5 @@
--- What contracts see of a certificate of the second form whose entries are read, and how they are judged.
+-- What contracts see of a certificate of the second form whose entries are read, and how they are
+-- judged.
 use Rattle.std.specs.Prelude.{◌≡◌, ℕ, ◌+◌, List, ⊤}
 use Rattle.cert_check.specs.declared.stated.CloseFault.{CloseFault}
 use Rattle.cert_check.specs.declared.stated.CloseFault.TheVariants as closing

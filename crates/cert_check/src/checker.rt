@@ -36,8 +36,9 @@ pub enum OpenFault {
     Memory,
 }
 
-/// Judges the claims of a certificate one by one, by the tails of tables or by those that entries state. It holds the open prefixes that
-/// begin the one owed next, and nothing else of what was judged, so that it takes no memory after it is opened.
+/// Judges the claims of a certificate one by one, by the tails of tables or by those that entries
+/// state. It holds the open prefixes that begin the one owed next, and nothing else of what was
+/// judged, so that it takes no memory after it is opened.
 #[derive(Drop)]
 pub struct Checker<'a, T: Tails> {
     exercise: &'a Exercise<'a>,
@@ -71,7 +72,8 @@ impl<'a, T: Tails> Model for Checker<'a, T> {
         (record { exercise = c.exercise.now; sheet = c.sheet.now; head = c.head }) (T.basis c.tails) c.judging };
 }
 
-/// The judging of the claims of a certificate, with the empty prefix owed. It takes all its memory here.
+/// The judging of the claims of a certificate, with the empty prefix owed. It takes all its memory
+/// here.
 fn begun<T: Tails>(
     alloc: Global,
     exercise: &Exercise,
@@ -80,11 +82,14 @@ fn begun<T: Tails>(
     tails: &T,
 ) -> Result<Judging<PrefixKnown>, AllocError>
     requires case { IsCase (record { exercise = exercise.now; sheet = sheet.now; head = head.now }) }
-    requires tails { HasTails (record { exercise = exercise.now; sheet = sheet.now; head = head.now }) (T.basis tails.now) }
+    requires tails { HasTails (record { exercise = exercise.now; sheet = sheet.now; head = head.now })
+        (T.basis tails.now) }
     requires entries { IfSome (T.basis tails.now).stated (AreTrueEntries exercise.now sheet.now) }
-    ensures standing { IfOk result (λ judging. standing_of (ways_of exercise.now) judging ≡ begun_at []) }
+    ensures standing { IfOk result (λ judging. standing_of (ways_of exercise.now) judging
+        ≡ begun_at []) }
     ensures checking { IfOk result
-        (IsChecking (record { exercise = exercise.now; sheet = sheet.now; head = head.now }) (T.basis tails.now)) }
+        (IsChecking (record { exercise = exercise.now; sheet = sheet.now; head = head.now })
+        (T.basis tails.now)) }
 {
     let case = Case {
         exercise,
@@ -95,7 +100,8 @@ fn begun<T: Tails>(
 }
 
 impl<'a> Checker<'a, Tables<'a>> {
-    /// A checker of the claims of a certificate of the first form with this head. All memory is taken here.
+    /// A checker of the claims of a certificate of the first form with this head. All memory is
+    /// taken here.
     pub fn open<R: Threads + Sync>(
         rt: &R,
         alloc: Global,
@@ -141,9 +147,11 @@ impl<'a, T: Tails + Drop> Checker<'a, T> {
         tails: T,
     ) -> Result<Checker<'a, T>, Memory>
         requires case { IsCase (record { exercise = exercise.now; sheet = sheet.now; head = head }) }
-        requires tails { HasTails (record { exercise = exercise.now; sheet = sheet.now; head = head }) (T.basis tails) }
+        requires tails { HasTails (record { exercise = exercise.now; sheet = sheet.now; head = head })
+            (T.basis tails) }
         requires entries { IfSome (T.basis tails).stated (AreTrueEntries exercise.now sheet.now) }
-        ensures { IfOk result (λ c. c ≡ opened_for exercise.entry.now sheet.entry.now head (T.basis tails).stated) }
+        ensures { IfOk result (λ c. c ≡ opened_for exercise.entry.now sheet.entry.now head
+            (T.basis tails).stated) }
     {
         let judging = begun(alloc, exercise, sheet, &head, &tails)?;
         Ok(Checker {
@@ -155,13 +163,14 @@ impl<'a, T: Tails + Drop> Checker<'a, T> {
         })
     }
 
-    /// What each checker keeps: its head is sound, the entries that are stated are true, and as long as no claim was refused, each setting
-    /// that refutes the head is begun by a prefix that is owed. It does nothing; callers that prove something about a checker learn this
-    /// from it.
+    /// What each checker keeps: its head is sound, the entries that are stated are true, and as
+    /// long as no claim was refused, each setting that refutes the head is begun by a prefix that
+    /// is owed. It does nothing; callers that prove something about a checker learn this from it.
     pub fn kept(&self)
         ensures sound { IsSound self.now.asked.exercise self.now.asked.sheet self.now.head }
-        ensures owes { self.now.refusal ≡ None
-            → OwesRefuting Begins (Refutes self.now.asked.exercise self.now.asked.sheet self.now.head.head) self.now.owed }
+        ensures owes { self.now.refusal ≡ None → OwesRefuting Begins
+            (Refutes self.now.asked.exercise self.now.asked.sheet self.now.head.head)
+            self.now.owed }
     {
         let _ = &self.judging;
     }

@@ -38,8 +38,9 @@ pub enum CheckFault {
     Memory,
 }
 
-/// Judges the file of a certificate of either form, read in pieces of at most 65,536 bytes. All memory is taken before the first claim is
-/// judged. The second form is judged without tables: what it states is compared, and the claims are judged by that.
+/// Judges the file of a certificate of either form, read in pieces of at most 65,536 bytes. All
+/// memory is taken before the first claim is judged. The second form is judged without tables: what
+/// it states is compared, and the claims are judged by that.
 pub fn check_file<R: Threads + Sync, F: Shelf>(
     rt: &R,
     alloc: Global,
@@ -53,19 +54,21 @@ pub fn check_file<R: Threads + Sync, F: Shelf>(
         (Rose (F.faults shelf.old) (F.faults shelf.new)) result }
 
     // Each valid certificate is accepted.
-    ensures accepts { IfOk result
-        (λ it. (head : AHead) → AcceptsValid ex.now sheet.now head (F.files shelf.old) name.now it) }
+    ensures accepts { IfOk result (λ it. (head : AHead) → AcceptsValid ex.now sheet.now head
+        (F.files shelf.old) name.now it) }
 
     // Where there is no file of the name, there is no verdict.
     ensures missing { IsMissing (F.files shelf.old) name.now
         → (result ≡ Err CheckFault.Unreadable) ⊎ (result ≡ Err CheckFault.Memory) }
 
-    // No shelf is blamed that promises each read of the file up to the limit, and no more is read than the limit and a byte beyond it.
+    // No shelf is blamed that promises each read of the file up to the limit, and no more is read
+    // than the limit and a byte beyond it.
     ensures served { ServesWhole (F.serves shelf.old) name.now 1073741824
         → IfErr result (λ fault. fault ≢ CheckFault.Unreadable) }
     ensures little { F.given shelf.new ≤ F.given shelf.old + 1073741825 }
 
-    // A menu that is too wide keeps the claims from being judged, and nothing else is told to be too wide.
+    // A menu that is too wide keeps the claims from being judged, and nothing else is told to be
+    // too wide.
     ensures narrow { AreNarrow ex.now
         → IfErr result (λ fault. (fault ≡ CheckFault.Unreadable) ⊎ (fault ≡ CheckFault.Memory)) }
     ensures wide { (AreNarrow ex.now → ⊥) → IfOk result IsHeadless }
@@ -158,9 +161,10 @@ fn judge_claims<F: Shelf, T: Tails + Drop>(
     checker: Checker<'_, T>,
 ) -> Result<Verdict, CheckFault>
     requires fresh { checker ≡ opened_at checker.asked checker.head [] }
-    requires opened { IsOpened (IsOpeningText checker.asked.exercise) (F.files shelf.old) name.now checker.head reader }
-    ensures answers { Answers checker.entry.asked.exercise checker.entry.asked.sheet (F.files shelf.old) name.now
-        (Rose (F.faults shelf.old) (F.faults shelf.new)) result }
+    requires opened { IsOpened (IsOpeningText checker.asked.exercise) (F.files shelf.old) name.now
+        checker.head reader }
+    ensures answers { Answers checker.entry.asked.exercise checker.entry.asked.sheet
+        (F.files shelf.old) name.now (Rose (F.faults shelf.old) (F.faults shelf.new)) result }
     ensures served { ServesWhole (F.serves shelf.old) name.now 1073741824
         → IfErr result (λ fault. fault ≢ CheckFault.Unreadable) }
     ensures little { F.given shelf.new + reader.offset ≤ F.given shelf.old + 1073741825 }

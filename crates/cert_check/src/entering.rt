@@ -10,7 +10,8 @@ use crate::stated::Stated;
 use cert_file::{ReadFault, StatedReader};
 use fux_port::Shelf;
 
-/// Takes what a certificate states behind its head, through the line `claims`, or up to the first line that isn't the one that is owed.
+/// Takes what a certificate states behind its head, through the line `claims`, or up to the first
+/// line that isn't the one that is owed.
 pub(crate) fn enter<F: Shelf>(
     shelf: &mut F,
     name: &str,
@@ -25,8 +26,10 @@ pub(crate) fn enter<F: Shelf>(
     ensures served { ServesWhole (F.serves shelf.old) name.now 1073741824
         → IfErr result (λ fault. fault ≢ ReadFault.Unreadable) }
     ensures serving { Keeps (F.serves shelf.old) (F.serves shelf.new) }
-    ensures little { F.given shelf.new + reader.old.offset ≤ F.given shelf.old + (reader.new.offset + 1) }
-    ensures told { OnOk result (F.given shelf.new + reader.old.offset ≤ F.given shelf.old + reader.new.offset) }
+    ensures little { F.given shelf.new + reader.old.offset ≤ F.given shelf.old
+        + (reader.new.offset + 1) }
+    ensures told { OnOk result (F.given shelf.new + reader.old.offset ≤ F.given shelf.old
+        + reader.new.offset) }
     ensures files { F.files shelf.new ≡ F.files shelf.old }
     ensures faults { F.faults shelf.old ≤ F.faults shelf.new }
 {

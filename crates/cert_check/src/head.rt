@@ -20,7 +20,8 @@ fn breaks_for(rule: u8, ex: &Exercise, score: &Score, i: usize, voices: VoiceSet
     requires valid { IsValid ex.now }
     requires complete { IsComplete ex.now score.now }
     requires place { i < length score.now.columns }
-    ensures { result ≡ (is_broken rule ex.now voices.bits score.now.columns i && is_strict_at rule ex.now voices.bits i) }
+    ensures { result ≡ (is_broken rule ex.now voices.bits score.now.columns i && is_strict_at rule
+        ex.now voices.bits i) }
 {
     if !is_broken_in(rule, ex, score, i, voices) {
         return false;
@@ -33,8 +34,8 @@ fn breaks_for_some(rule: u8, ex: &Exercise, score: &Score, i: usize) -> bool
     requires valid { IsValid ex.now }
     requires complete { IsComplete ex.now score.now }
     requires place { i < length score.now.columns }
-    ensures { result ≡ list_any
-        (λ voices. is_broken rule ex.now voices score.now.columns i && is_strict_at rule ex.now voices i) all_sets }
+    ensures { result ≡ list_any (λ voices. is_broken rule ex.now voices score.now.columns i
+        && is_strict_at rule ex.now voices i) all_sets }
 {
     for bits in every_set() {
         if breaks_for(rule, ex, score, i, VoiceSet { bits: *bits }) {
@@ -100,7 +101,8 @@ fn is_lawful(ex: &Exercise, score: &Score) -> bool
     true
 }
 
-/// Whether the head's score is a lawful setting that has the head's penalty. A head without a score is sound.
+/// Whether the head's score is a lawful setting that has the head's penalty. A head without a score
+/// is sound.
 pub fn is_sound(ex: &Exercise, sheet: &Sheet, head: &CertHead) -> bool
     requires { IsValid ex.now }
     ensures { IsTrue result ↔ IsHeadSound ex.now sheet.now head.now }

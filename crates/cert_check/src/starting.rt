@@ -14,8 +14,8 @@ use fux_grid::Exercise;
 use fux_port::Shelf;
 use std::alloc::Global;
 
-/// The head of the certificate that a file is, with its form, and the bytes behind it. It reads 65,536 bytes of the file, or all of a
-/// shorter one, and takes all the memory that reading wants.
+/// The head of the certificate that a file is, with its form, and the bytes behind it. It reads
+/// 65,536 bytes of the file, or all of a shorter one, and takes all the memory that reading wants.
 pub fn start<F: Shelf>(
     alloc: Global,
     ex: &Exercise,
@@ -23,7 +23,8 @@ pub fn start<F: Shelf>(
     name: &str,
 ) -> Result<(Form, CertHead, Pieces), ReadFault>
     requires { IsValid ex.now }
-    ensures starts { Starts ex.now (F.files shelf.old) name.now (Rose (F.faults shelf.old) (F.faults shelf.new)) result }
+    ensures starts { Starts ex.now (F.files shelf.old) name.now
+        (Rose (F.faults shelf.old) (F.faults shelf.new)) result }
     ensures missing { IsMissing (F.files shelf.old) name.now → IsUnread result }
     ensures served { ServesWhole (F.serves shelf.old) name.now longest_piece
         → IfErr result (λ fault. fault ≢ ReadFault.Unreadable) }

@@ -1,4 +1,5 @@
-//! Certificates of the second form, as they come: a head and entries, and then the checker of their claims.
+//! Certificates of the second form, as they come: a head and entries, and then the checker of their
+//! claims.
 
 ghost use Rattle.std.specs.Prelude.{◌≡◌, ◌+◌, ◌<◌, ◌++◌, ◌∷◌, [], Some, length, IfErr, IfOk, OnOk};
 ghost use Rattle.cert_check.specs.Opening.{TellsWhy, opened_for};
@@ -28,7 +29,8 @@ pub enum CloseFault {
     Memory,
 }
 
-/// A certificate of the second form, as far as its entries were read. It fills no tables, and neither does the checker that it becomes.
+/// A certificate of the second form, as far as its entries were read. It fills no tables, and
+/// neither does the checker that it becomes.
 #[derive(Drop)]
 pub struct Stated<'a> {
     exercise: &'a Exercise<'a>,
@@ -54,7 +56,8 @@ impl<'a> Model for Stated<'a> {
 }
 
 impl<'a> Stated<'a> {
-    /// A certificate with this head, of which no entry was read. All memory for the entries is taken here.
+    /// A certificate with this head, of which no entry was read. All memory for the entries is
+    /// taken here.
     pub fn open(
         alloc: Global,
         ex: &'a Exercise<'a>,
@@ -106,17 +109,18 @@ impl<'a> Stated<'a> {
         self.entries.state(p);
     }
 
-    /// The checker of the claims, where each entry is true. Whether one isn't is found by many threads; which is the first doesn't
-    /// depend on how they divide the work.
+    /// The checker of the claims, where each entry is true. Whether one isn't is found by many
+    /// threads; which is the first doesn't depend on how they divide the work.
     pub fn close<R: Threads + Sync>(
         self,
         rt: &R,
         alloc: Global,
     ) -> Result<Checker<'a, Entries<'a>>, CloseFault>
         requires whole { length self.entries ≡ entry_count self.exercise }
-        ensures opened { IfOk result
-            (λ c. c ≡ opened_for self.entry.exercise self.entry.sheet self.entry.head (Some self.entry.entries)) }
-        ensures true_entries { OnOk result (AreTrueEntries self.entry.exercise self.entry.sheet self.entry.entries) }
+        ensures opened { IfOk result (λ c. c ≡ opened_for self.entry.exercise self.entry.sheet
+            self.entry.head (Some self.entry.entries)) }
+        ensures true_entries { OnOk result (AreTrueEntries self.entry.exercise self.entry.sheet
+            self.entry.entries) }
         ensures refused { IfErr result (TellsFalse self.entry) }
     {
         match self.entries.first_false(rt, alloc) {

@@ -1,5 +1,5 @@
--- What a column costs by itself, with what is stated for it, is no more than the sum through it (`bound_is`). Bounds are found one by
--- one (`bounds_more`).
+-- What a column costs by itself, with what is stated for it, is no more than the sum through it
+-- (`bound_is`). Bounds are found one by one (`bounds_more`).
 use Rattle.std.proofs.Common.{◌≡◌, ◌⊎◌, inl, inr, ℕ, ◌+◌, ◌<◌, ◌≤◌, Bool, true, false, List, [], ◌∷◌, ◌++◌, Option, Some, None, length, get_or, refl, sym, ◌∙◌, subst, arith}
 use Rattle.std.specs.Prelude.{IsSomeAnd, if◌then◌else◌}
 use Rattle.std.proofs.lemmas.List.{get_or_append_left, get_or_push, length_push}

@@ -1,5 +1,6 @@
--- The first answer that is no stands at the first test that fails (`first_of_answers`), and two answers to that are one
--- (`first_is_one`); the answers of a chain of numbers say which tests are passed (`answers_are`).
+-- The first answer that is no stands at the first test that fails (`first_of_answers`), and two
+-- answers to that are one (`first_is_one`); the answers of a chain of numbers say which tests are
+-- passed (`answers_are`).
 use Rattle.std.proofs.Common.{◌≡◌, ◌⊎◌, inl, inr, ℕ, zero, suc, ◌+◌, ◌<◌, ◌≤◌, true, Bool, List, [], ◌∷◌, Option, Some, None, length, get_or, sym, ap, refl, ◌∙◌, subst, arith}
 use Rattle.std.specs.Prelude.{◌↔◌, IsTrue}
 use Rattle.std.specs.List.{AllZip, range_with_len}
@@ -37,7 +38,8 @@ first_is_one passes count (Some n) (Some m) h g = at (cases_lt n m)
         by (inl before) = less (inr before)
         by (inr most) = less (inl (omega (arith, behind, most)))
 
--- answers that go with the numbers from 0, each with the test of its number, say which tests are passed
+-- answers that go with the numbers from 0, each with the test of its number, say which tests are
+-- passed
 at_each : (R : ℕ → Bool → Type 0) (numbers : List ℕ) (answers : List Bool) (n d : ℕ) (e : Bool) → AllZip R numbers answers
     → n < length numbers → R (get_or numbers n d) (get_or answers n e)
 at_each R [] answers n d e h short = absurd (omega (arith, short))

@@ -1,5 +1,5 @@
--- In a menu whose columns hold all they sound at most one follows a column (`follower_is_one`); so an entry is true before it where it
--- allows the sum through that one (`true_by_one`).
+-- In a menu whose columns hold all they sound at most one follows a column (`follower_is_one`); so
+-- an entry is true before it where it allows the sum through that one (`true_by_one`).
 use Rattle.std.proofs.Common.{◌≡◌, ◌⊎◌, inl, inr, ℕ, suc, ◌<◌, ◌≤◌, Bool, true, false, List, [], ◌∷◌, Option, Some, None, length, refl, sym, ap, ◌∙◌, subst, arith}
 use Rattle.std.specs.Prelude.{◌↔◌, IsTrue, if◌then◌else◌}
 use Rattle.std.specs.List.{list_all}

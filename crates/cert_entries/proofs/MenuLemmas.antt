@@ -81,7 +81,8 @@ menus_more ex count old new columns have has adds = record {
         ∙ get_or_push old.still.items adds.flag d i (omega (arith, here, have.flagged)))
         ∙ is))
 
--- where the menus before a place are kept, and that of the place is too wide, it is the first that is
+-- where the menus before a place are kept, and that of the place is too wide, it is the first that
+-- is
 pub first_wide : (ex : Exercise) (i : ℕ) (menus : Menus) (fault : EntryFault) → i < columns_in ex → HaveMenus ex i menus
     → TellsMenu ex i fault → TellsWidth ex fault
 first_wide ex i menus (TooWide place count) within have told = record {

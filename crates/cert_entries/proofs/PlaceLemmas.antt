@@ -1,5 +1,5 @@
--- Each number of an entry has one place (`place_is_one`), and each place one within the count (`number_within`). The numbers are small
--- (`few_numbers`).
+-- Each number of an entry has one place (`place_is_one`), and each place one within the count
+-- (`number_within`). The numbers are small (`few_numbers`).
 use Rattle.std.proofs.Common.{◌≡◌, ◌⊎◌, inl, inr, ℕ, zero, suc, ◌+◌, ◌^◌, ◌<◌, ◌≤◌, length, sym, ap, subst, arith}
 use Rattle.std.proofs.lemmas.Bool.{cases_lt}
 use Rattle.cert_entries.specs.declared.menus.Menus.{Menus}

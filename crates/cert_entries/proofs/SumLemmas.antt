@@ -1,4 +1,5 @@
--- The sum through a column: none, where it doesn't follow (`closed_sum`); else what it costs with what is stated for it (`open_sum`).
+-- The sum through a column: none, where it doesn't follow (`closed_sum`); else what it costs with
+-- what is stated for it (`open_sum`).
 use Rattle.std.proofs.Common.{◌≡◌, ℕ, Bool, true, false, List, Option, Some, None, refl, sym, ap, ◌∙◌, if◌then◌else◌}
 use Rattle.std.specs.Borrow.{Bor}
 use Rattle.std.proofs.lemmas.Bool.{false_from_ne_true}

@@ -1,5 +1,5 @@
--- The entry of a number is true where that of its place is (`entry_at_place`), and the first one that isn't true is found by numbers
--- (`found_of`).
+-- The entry of a number is true where that of its place is (`entry_at_place`), and the first one
+-- that isn't true is found by numbers (`found_of`).
 use Rattle.std.proofs.Common.{◌≡◌, ℕ, suc, ◌+◌, ◌<◌, Option, Some, None, List, length, refl, subst, arith}
 use Rattle.std.specs.Prelude.{◌↔◌, Bool, IsTrue, Result, Ok, Err, IfOk}
 use Rattle.cert_entries.specs.Boards.{IsTrueAt}

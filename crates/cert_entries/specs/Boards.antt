@@ -46,7 +46,8 @@ pub record IsBoard (board : Board) : Type 0 where
   pub menus : AreMenus board.exercise.now board.menus.now
   pub bounds : AreBounds board.exercise.now board.sheet.now board.stated.now board.bounds.now
 
--- the column of a number, counted through all menus, stands at this place and has this number in its menu
+-- the column of a number, counted through all menus, stands at this place and has this number in
+-- its menu
 pub record IsPlaceOf (ex : Exercise) (number : ℕ) (at : ℕ × ℕ) : Type 0 where
   pub place : at.0 < columns_in ex
   pub within : at.1 < length (menu_of ex at.0)

@@ -18,7 +18,8 @@ pub(crate) struct Board<'a> {
     pub(crate) sheet: &'a Sheet,
     pub(crate) menus: &'a Menus,
     pub(crate) stated: &'a [Potential],
-    /// For some columns, counted through all menus, what there is through each at least; none where nothing is.
+    /// For some columns, counted through all menus, what there is through each at least; none where
+    /// nothing is.
     pub(crate) bounds: &'a [Option<u32>],
 }
 
@@ -63,7 +64,8 @@ impl<'a> Board<'a> {
         self.entry(1 + self.menus.before[i] + k)
     }
 
-    /// What there is through the column with a number in the menu of a place at least, as far as it is known; none where nothing is.
+    /// What there is through the column with a number in the menu of a place at least, as far as it
+    /// is known; none where nothing is.
     #[inline(always)]
     pub(crate) fn bound_of(&self, i: usize, k: usize) -> Option<u32>
         requires board { IsBoard self.now }
@@ -79,10 +81,12 @@ impl<'a> Board<'a> {
         }
     }
 
-    /// The place of the column of a number, counted from 0 through all menus, and its number in the menu of that place.
+    /// The place of the column of a number, counted from 0 through all menus, and its number in the
+    /// menu of that place.
     pub(crate) fn place_of(&self, number: usize) -> (usize, usize)
         requires board { IsBoard self.now }
-        requires within { number < law.columns_before self.now.exercise.now (columns_in self.now.exercise.now) }
+        requires within { number < law.columns_before self.now.exercise.now
+            (columns_in self.now.exercise.now) }
         ensures { IsPlaceOf self.now.exercise.now number result }
     {
         let mut rest = number;

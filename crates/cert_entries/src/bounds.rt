@@ -1,4 +1,5 @@
-//! What there is through each column at least: no entry has to be compared with more where it is no more than that.
+//! What there is through each column at least: no entry has to be compared with more where it is no
+//! more than that.
 
 ghost use Rattle.std.specs.Prelude.{◌+◌, ◌^◌, ◌<◌, ◌≤◌, length, IfOk, IfSome};
 ghost use Rattle.cert_entries.specs.Boards.{AreBounds, IsBoard, IsBound, IsBoundOf};
@@ -21,8 +22,8 @@ fn at_most(cost: u64, number: u32) -> u32
 }
 
 impl<'a> Board<'a> {
-    /// What there is through the column with a number in the menu of a place at least: what it costs by itself, together with what is
-    /// stated for it.
+    /// What there is through the column with a number in the menu of a place at least: what it
+    /// costs by itself, together with what is stated for it.
     fn least_through(&self, i: usize, k: usize) -> Option<u32>
         requires board { IsBoard self.now }
         requires place { i < columns_in self.now.exercise.now }
@@ -36,7 +37,8 @@ impl<'a> Board<'a> {
     /// The same of each column, counted through all menus.
     pub(crate) fn bounds(&self, alloc: Global) -> Result<Vec<Option<u32>>, Memory>
         requires { IsBoard self.now }
-        ensures { IfOk result (λ bounds. AreBounds self.now.exercise.now self.now.sheet.now self.now.stated.now bounds.items) }
+        ensures { IfOk result (λ bounds. AreBounds self.now.exercise.now self.now.sheet.now
+            self.now.stated.now bounds.items) }
     {
         let mut bounds = Vec::with_capacity(alloc, self.menus.total)?;
         for number in 0..self.menus.total {
@@ -47,7 +49,8 @@ impl<'a> Board<'a> {
     }
 }
 
-/// What a column costs by itself, together with what is stated for it; none where it may not stand there, or nothing is stated.
+/// What a column costs by itself, together with what is stated for it; none where it may not stand
+/// there, or nothing is stated.
 fn bound_of(own: Option<u64>, entry: Potential) -> Option<u32>
     requires { IfSome own (λ cost. cost ≤ 2 ^ 24) }
     ensures { IsBoundOf own (number_in entry) result }

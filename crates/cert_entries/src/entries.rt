@@ -31,8 +31,9 @@ pub enum EntryFault {
     Memory,
 }
 
-/// The entries of a certificate for an exercise and a sheet, in their order, as far as they came: one of the start, then one of each
-/// column of the menus in reading order. There are at most 1,572,865.
+/// The entries of a certificate for an exercise and a sheet, in their order, as far as they came:
+/// one of the start, then one of each column of the menus in reading order. There are at most
+/// 1,572,865.
 #[derive(Drop)]
 pub struct Entries<'a> {
     exercise: &'a Exercise<'a>,
@@ -113,7 +114,8 @@ impl<'a> Entries<'a> {
         self.board().is_true(n)
     }
 
-    /// The number of the first one that isn't true; none only where each is. It is the same for every division of the work.
+    /// The number of the first one that isn't true; none only where each is. It is the same for
+    /// every division of the work.
     pub fn first_false<R: Threads + Sync>(
         &self,
         rt: &R,

@@ -15,7 +15,8 @@ fn answers<R: Threads + Sync, T: Tests + Sync>(
     alloc: Global,
     tests: &T,
 ) -> Result<Vec<bool>, Memory>
-    ensures { IfOk result (λ found. AreAnswers (T.passes tests.now) (T.size tests.now) found.items) }
+    ensures { IfOk result (λ found. AreAnswers (T.passes tests.now) (T.size tests.now)
+        found.items) }
 {
     let found = (0..tests.count())
         .into_par_iter()
@@ -41,7 +42,8 @@ fn first_no(answers: &[bool]) -> Option<usize>
     None
 }
 
-/// The number of the first test that fails; none only where each is passed. It is the same for every division of the work.
+/// The number of the first test that fails; none only where each is passed. It is the same for
+/// every division of the work.
 pub fn first_failing<R: Threads + Sync, T: Tests + Sync>(
     rt: &R,
     alloc: Global,

@@ -1,5 +1,6 @@
-//! The entries of a certificate of the second form, as they come, and whether each is true: none is more than what each column that may
-//! come next costs together with the number that is stated for it. No least sum is worked out here.
+//! The entries of a certificate of the second form, as they come, and whether each is true: none is
+//! more than what each column that may come next costs together with the number that is stated for
+//! it. No least sum is worked out here.
 #![tactic(auto)]
 
 mod board;

@@ -17,7 +17,8 @@ use fux_grid::{Column, cells_follow};
 use fux_judge::link_cost;
 use rule_law::cells_of;
 
-/// Whether an entry allows a sum. Both are compared in 64 bits: a sum may be above all numbers that are stated.
+/// Whether an entry allows a sum. Both are compared in 64 bits: a sum may be above all numbers that
+/// are stated.
 fn allows(entry: Potential, sum: Option<u64>) -> bool
     ensures { IsTrue result ↔ AllowsSum entry sum }
 {
@@ -39,7 +40,8 @@ fn sum_with(cost: u64, entry: Potential) -> Option<u64>
     }
 }
 
-/// Whether an entry allows each sum that is no less than this one, or none where there is none. Then no cost has to be found.
+/// Whether an entry allows each sum that is no less than this one, or none where there is none.
+/// Then no cost has to be found.
 #[inline(always)]
 fn allows_from(entry: Potential, least: Option<u32>) -> bool
     ensures { OnTrue result (AllowsFrom entry least) }
@@ -62,12 +64,14 @@ fn is_end(entry: Potential) -> bool
 }
 
 impl<'a> Board<'a> {
-    /// What the column of a number in a place's menu costs behind another or behind none, together with what is stated for it.
+    /// What the column of a number in a place's menu costs behind another or behind none, together
+    /// with what is stated for it.
     fn sum_through(&self, i: usize, prev: Option<&'a Column>, k: usize) -> Option<u64>
         requires board { IsBoard self.now }
         requires place { i < columns_in self.now.exercise.now }
         requires within { k < length (menu_of self.now.exercise.now i) }
-        ensures { result ≡ law.sum_through self.now.exercise.now self.now.sheet.now self.now.stated.now i (given prev.entry) k }
+        ensures { result ≡ law.sum_through self.now.exercise.now self.now.sheet.now
+            self.now.stated.now i (given prev.entry) k }
     {
         let next = self.column(i, k);
         if !cells_follow(cells_of(prev), next.as_slice()) {
@@ -77,14 +81,15 @@ impl<'a> Board<'a> {
         sum_with(cost, self.entry_of(i, k))
     }
 
-    /// Whether an entry of a column before a place, or of the start, allows the sum through the column of a number there.
+    /// Whether an entry of a column before a place, or of the start, allows the sum through the
+    /// column of a number there.
     #[inline(always)]
     fn allows_through(&self, i: usize, prev: Option<&'a Column>, entry: Potential, k: usize) -> bool
         requires board { IsBoard self.now }
         requires place { i < columns_in self.now.exercise.now }
         requires within { k < length (menu_of self.now.exercise.now i) }
-        ensures { IsTrue result ↔ AllowsSum entry
-            (law.sum_through self.now.exercise.now self.now.sheet.now self.now.stated.now i (given prev.entry) k) }
+        ensures { IsTrue result ↔ AllowsSum entry (law.sum_through self.now.exercise.now
+            self.now.sheet.now self.now.stated.now i (given prev.entry) k) }
     {
         if allows_from(entry, self.bound_of(i, k)) {
             return true;
@@ -96,7 +101,8 @@ impl<'a> Board<'a> {
     fn is_true_before(&self, i: usize, prev: Option<&'a Column>, entry: Potential) -> bool
         requires board { IsBoard self.now }
         requires place { i < columns_in self.now.exercise.now }
-        ensures { IsTrue result ↔ IsTrueBefore self.now.exercise.now self.now.sheet.now self.now.stated.now i (given prev.entry) entry }
+        ensures { IsTrue result ↔ IsTrueBefore self.now.exercise.now self.now.sheet.now
+            self.now.stated.now i (given prev.entry) entry }
     {
         for k in 0..self.width(i) {
             if !self.allows_through(i, prev, entry, k) {
@@ -106,8 +112,8 @@ impl<'a> Board<'a> {
         true
     }
 
-    /// Whether the column of a number is known to be the only one of a place's menu that follows another: it does, and all hold what they
-    /// sound.
+    /// Whether the column of a number is known to be the only one of a place's menu that follows
+    /// another: it does, and all hold what they sound.
     fn follows_alone(&self, i: usize, prev: &Column, k: usize) -> bool
         requires board { IsBoard self.now }
         requires place { i < columns_in self.now.exercise.now }
@@ -119,14 +125,14 @@ impl<'a> Board<'a> {
         cells_follow(prev.as_slice(), self.column(i, k).as_slice())
     }
 
-    /// Whether an entry is true of the column of a number before the next place. The one that follows alone has the same number there
-    /// mostly; else all are gone through.
+    /// Whether an entry is true of the column of a number before the next place. The one that
+    /// follows alone has the same number there mostly; else all are gone through.
     fn is_true_behind(&self, i: usize, k: usize, entry: Potential) -> bool
         requires board { IsBoard self.now }
         requires place { i + 1 < columns_in self.now.exercise.now }
         requires within { k < length (menu_of self.now.exercise.now i) }
-        ensures { IsTrue result ↔ IsTrueBefore self.now.exercise.now self.now.sheet.now self.now.stated.now (i + 1)
-            (Some (law.menu_column self.now.exercise.now i k)) entry }
+        ensures { IsTrue result ↔ IsTrueBefore self.now.exercise.now self.now.sheet.now
+            self.now.stated.now (i + 1) (Some (law.menu_column self.now.exercise.now i k)) entry }
     {
         let prev = self.column(i, k);
         if self.follows_alone(i + 1, prev, k) {
@@ -140,7 +146,8 @@ impl<'a> Board<'a> {
         requires board { IsBoard self.now }
         requires place { i < columns_in self.now.exercise.now }
         requires within { k < length (menu_of self.now.exercise.now i) }
-        ensures { IsTrue result ↔ IsTrueAt self.now.exercise.now self.now.sheet.now self.now.stated.now i k }
+        ensures { IsTrue result ↔ IsTrueAt self.now.exercise.now self.now.sheet.now
+            self.now.stated.now i k }
     {
         let entry = self.entry_of(i, k);
         if i + 1 < self.menus.columns.len() {
@@ -154,7 +161,8 @@ impl<'a> Board<'a> {
     pub(crate) fn is_true(&self, n: usize) -> bool
         requires board { IsBoard self.now }
         requires within { n < entry_count self.now.exercise.now }
-        ensures { IsTrue result ↔ IsTrueEntry self.now.exercise.now self.now.sheet.now self.now.stated.now n }
+        ensures { IsTrue result ↔ IsTrueEntry self.now.exercise.now self.now.sheet.now
+            self.now.stated.now n }
     {
         if n == 0 {
             return self.is_true_before(0, None, self.entry(0));

@@ -34,7 +34,8 @@ impl<'a> Trial<'a> {
     pub(crate) fn new(board: Board<'a>, bounds: &'a [Option<u32>]) -> Trial<'a>
         requires board { IsBoard board }
         requires bounds { AreBounds board.exercise.now board.sheet.now board.stated.now bounds.now }
-        ensures { result ≡ listing_for board.entry.exercise.now board.entry.sheet.now board.entry.stated.now }
+        ensures { result ≡ listing_for board.entry.exercise.now board.entry.sheet.now
+            board.entry.stated.now }
     {
         Trial {
             board: Board {

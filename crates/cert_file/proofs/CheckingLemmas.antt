@@ -1,7 +1,8 @@
--- What a checker answers and keeps, by what is judged of its tree: a claim that is taken (`taken_seen`) or refused (`refused_seen`), and
--- that claims which were fed to it were fed to the tree (`fed_seen`).
-use Rattle.std.proofs.Common.{◌≡◌, ◌⊎◌, inl, inr, ℕ, ◌+◌, List, [], ◌∷◌, ◌++◌, Option, Some, None, Result, Ok, Err, refl, sym, ap, subst, ◌∙◌}
-use Rattle.std.specs.Prelude.{IfErr, OnOk, option_map}
+-- What a checker answers and keeps, by what is judged of its tree: a claim that is taken
+-- (`taken_seen`) or refused (`refused_seen`), and that claims which were fed to it were fed to the
+-- tree (`fed_seen`).
+use Rattle.std.proofs.Common.{◌≡◌, inl, inr, ◌+◌, List, [], ◌∷◌, ◌++◌, Option, Some, None, refl, sym, ap, subst, ◌∙◌}
+use Rattle.std.specs.Prelude.{option_map}
 use Rattle.cert_text.specs.declared.answers.Refused.{Refused}
 use Rattle.cert_text.specs.declared.claim.Claim.{Claim}
 use Rattle.cert_tree.specs.Judgings.{AreFed as TreeFed, IsFault as TreeFault, IsFed as TreeIsFed, IsFedCertified, IsFedNone, Refuses as TreeRefuses, Standing, Takes as TreeTakes, TakesOf as TreeTakesOf, begun_at}
@@ -9,9 +10,9 @@ use Rattle.cert_tree.specs.Trees.{Tree, owed_by}
 use Rattle.cert_tree.specs.declared.judging.Cause.{Cause}
 use Rattle.cert_tree.specs.declared.judging.Cause.TheVariants as causes
 use Rattle.cert_tree.specs.declared.judging.Refusal.{Refusal}
-use Rattle.cert_file.specs.Checking.{AreFed, Checking, IsFault, IsFed, IsFedCertificate, Refuses, Takes, TakesOf, opened_at, refused_by, why_of}
+use Rattle.cert_file.specs.Checking.{AreFed, Checking, IsFault, IsFed, IsFedCertificate, Refuses, Takes, TakesOf, refused_by, why_of}
 use Rattle.cert_file.specs.Checking as checking
-use Rattle.cert_file.specs.Subjects.{IsCertificate, Subject}
+use Rattle.cert_file.specs.Subjects.{Subject}
 
 -- what contracts see of a checker of this, by where its judge stands
 abbrev pub seen_at : {P H X : Type 0} → P → H → Standing X → Checking P H X

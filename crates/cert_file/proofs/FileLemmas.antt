@@ -1,5 +1,6 @@
--- What is known of a file of which more was read (`longer`), of one whose end was met (`ends`), and of one that goes on (`goes_on`); so the
--- next piece of it is one (`continues`), or shows that it is too long (`past_at`).
+-- What is known of a file of which more was read (`longer`), of one whose end was met (`ends`), and
+-- of one that goes on (`goes_on`); so the next piece of it is one (`continues`), or shows that it
+-- is too long (`past_at`).
 use Rattle.std.proofs.Common.{◌≡◌, ℕ, ◌+◌, ◌-◌, ◌<◌, ◌≤◌, inl, inr, ⊎_elim, Bool, true, false, nat_lt, List, [], ◌∷◌, ◌++◌, Option, None, Some, Result, Ok, Err, IfOk, length, take, drop, refl, sym, ap, ap₂, subst, ◌∙◌, arith, append_assoc, append-nil, length-append}
 use Rattle.std.proofs.Math.Seq.{take-add, take-append-add, take-append_seam}
 use Rattle.std.proofs.lemmas.List.{drop-take, take_all, take-append-drop, take-append-le, take-take, length-take-le}

@@ -1,4 +1,5 @@
--- What the claims that were taken are (`begins`, `takes_on`), how many they are at most (`few`), and what comes behind them.
+-- What the claims that were taken are (`begins`, `takes_on`), how many they are at most (`few`),
+-- and what comes behind them.
 use Rattle.std.proofs.Common.{◌≡◌, ◌≢◌, ℕ, ◌+◌, ◌≤◌, List, [], ◌∷◌, ◌++◌, Option, None, Result, length, take, refl, sym, ap, subst, ◌∙◌, arith, append-nil, length-append}
 use Rattle.std.proofs.lemmas.List.{flat_map_more, take-take}
 use Rattle.std.proofs.Math.Seq.{take-append_seam}
@@ -26,7 +27,8 @@ begins_front bytes xs ys begins =
     sym (take-take (length xs) (length (xs ++ ys)) bytes (omega (arith, length-append xs ys)))
     ∙ ap (λ zs. take (length xs) zs) begins ∙ take-append_seam xs ys
 
--- what stands between two claims: the reader is behind those that the checker took, and the checker keeps no refusal
+-- what stands between two claims: the reader is behind those that the checker took, and the checker
+-- keeps no refusal
 pub record IsOn {P H X : Type 0} (family : P → Subject H X) (files : Files) (name : List ℕ) (start : Checking P H X)
     (reader : Reading) (checker : Checking P H X) : Type 0
   where

@@ -1,7 +1,8 @@
--- Bytes have one verdict (`one_verdict`), where at most one head stands at their front and they are refused before claims in one way, if
--- they are (`IsRefusedOnce`): the lines of claims behind a head read one way only, and the first thing that is wrong is one. So the text of
--- a valid certificate is accepted (`accepted_answer`).
-use Rattle.std.proofs.Common.{◌≡◌, ◌≢◌, ℕ, ◌+◌, ◌<◌, ◌≤◌, Bool, true, false, nat_lt, List, [], ◌∷◌, ◌++◌, None, Result, Ok, Err, length, take, drop, inl, inr, refl, sym, ap, subst, ◌∙◌, arith, append_assoc, append-nil, length-append}
+-- Bytes have one verdict (`one_verdict`), where at most one head stands at their front and they are
+-- refused before claims in one way, if they are (`IsRefusedOnce`): the lines of claims behind a
+-- head read one way only, and the first thing that is wrong is one. So the text of a valid
+-- certificate is accepted (`accepted_answer`).
+use Rattle.std.proofs.Common.{◌≡◌, ◌≢◌, ℕ, ◌+◌, ◌<◌, ◌≤◌, Bool, true, false, nat_lt, List, [], ◌∷◌, ◌++◌, Result, Ok, Err, length, take, drop, inl, inr, refl, sym, ap, subst, ◌∙◌, arith, append_assoc, append-nil, length-append}
 use Rattle.std.specs.Prelude.{IfOk, ⊤}
 use Rattle.std.proofs.lemmas.Bool.Decides.{nat_tests}
 use Rattle.std.proofs.lemmas.List.{append_cancel_left, take_all, take-append-drop}
@@ -21,7 +22,6 @@ use Rattle.cert_text.specs.declared.claim.Claim.{Claim}
 use Rattle.cert_text.specs.Lines.{BeginsClaim, HasNoFeed, IsClaim, claim_line, claim_word, line_part}
 use Rattle.cert_text.proofs.PieceLemmas.{Alone}
 use Rattle.cert_tree.specs.Trees.{IsCertified, owed_by}
-use Rattle.fux_port.specs.Files.{HasFile}
 use Rattle.cert_text.specs.Pieces.{Stands}
 use Rattle.cert_text.proofs.Fronts.{at_front, stands-one}
 use Rattle.cert_file.specs.Judgments.{AcceptsValid, FindsIn, IsTaken, IsVerdictBy}
@@ -171,7 +171,8 @@ module _ {H X : Type 0} (subject : Subject H X) (head : H) (more : Bool) where
 abbrev goes_beyond : List ℕ → Bool
 goes_beyond bytes = nat_lt longest_certificate (length bytes)
 
--- bytes are refused before any claim in one way, if they are, and then no sound head stands at their front
+-- bytes are refused before any claim in one way, if they are, and then no sound head stands at
+-- their front
 pub record IsRefusedOnce {H X : Type 0} (subject : Subject H X) (bytes : List ℕ) : Type 0 where
   pub one : (it other : Verdict) → subject.Refuses it bytes → subject.Refuses other bytes → it ≡ other
   pub none : (it : Verdict) (head : H) (front rest : List ℕ) → subject.Refuses it bytes → subject.IsSound head

@@ -1,5 +1,6 @@
--- What a reader of claims makes of a piece: it takes a line of it (`line_taken`) or refuses it (`line_refused`); and what the next piece makes
--- of a reader (`reads_on`, `fault_given`), or the end of the file (`end_gives`).
+-- What a reader of claims makes of a piece: it takes a line of it (`line_taken`) or refuses it
+-- (`line_refused`); and what the next piece makes of a reader (`reads_on`, `fault_given`), or the
+-- end of the file (`end_gives`).
 use Rattle.std.proofs.Common.{◌≡◌, ◌≢◌, ℕ, ◌+◌, ◌-◌, ◌<◌, ◌≤◌, Bool, true, false, List, [], ◌∷◌, ◌++◌, Option, None, Some, Result, Ok, Err, length, take, drop, refl, sym, ap, subst, ◌∙◌, arith, append_assoc, length-append, length-drop}
 use Rattle.std.specs.Prelude.{IfNone, IfSome}
 use Rattle.std.specs.Io.{StartsWith}

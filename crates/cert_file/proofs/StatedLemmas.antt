@@ -1,5 +1,6 @@
--- What a reader of what is stated makes of a piece: it takes a line of it (`stated_taken`) or refuses it (`stated_refused`); and what the next
--- piece makes of a reader (`stated_on`), or the end of the file (`stated_ends`).
+-- What a reader of what is stated makes of a piece: it takes a line of it (`stated_taken`) or
+-- refuses it (`stated_refused`); and what the next piece makes of a reader (`stated_on`), or the
+-- end of the file (`stated_ends`).
 use Rattle.std.proofs.Common.{◌≡◌, ℕ, ◌+◌, ◌≤◌, Bool, true, false, nat_lt, List, [], ◌++◌, Option, None, Some, Result, Ok, Err, length, drop, get_or, refl, sym, ap, subst, ◌∙◌, arith, append_assoc, append-nil, length-append, length-drop}
 use Rattle.std.specs.Prelude.{IfSome}
 use Rattle.fux_port.specs.Files.{MayHave}

@@ -1,5 +1,6 @@
--- Lines that state something read one way only (`same_potential`, `same_entries`), and a line that is owed is neither wrong nor unended
--- (`owed_not_wrong`, `owed_not_unended`); no line is both (`wrong_not_unended`).
+-- Lines that state something read one way only (`same_potential`, `same_entries`), and a line that
+-- is owed is neither wrong nor unended (`owed_not_wrong`, `owed_not_unended`); no line is both
+-- (`wrong_not_unended`).
 use Rattle.std.proofs.Common.{◌≡◌, ℕ, suc, ◌+◌, ◌<◌, ◌≤◌, Bool, true, false, List, [], ◌∷◌, ◌++◌, length, get_or, decimal, codes, refl, sym, ap, subst, ◌∙◌, arith, append_assoc, append-nil}
 use Rattle.std.specs.List.{AllByRecursion, flat_map}
 use Rattle.std.proofs.lemmas.Fmt.{decimal_injective}

@@ -1,4 +1,5 @@
--- The lines of claims read one way only (`same_line`), and begin no other line (`line_begins`, `has_feed`).
+-- The lines of claims read one way only (`same_line`), and begin no other line (`line_begins`,
+-- `has_feed`).
 use Rattle.std.proofs.Common.{◌≡◌, inl, inr, ℕ, List, [], ◌∷◌, ◌++◌, get_or, decimal, codes, refl, sym, ap, subst, ◌∙◌, arith, append_assoc, append-nil}
 use Rattle.std.proofs.lemmas.Fmt.{decimal_injective}
 use Rattle.std.proofs.lemmas.List.{append_cancel_left}

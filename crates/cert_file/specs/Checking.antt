@@ -1,4 +1,5 @@
--- What contracts see of a checker, what it answers, and claims that are fed to it one after the other.
+-- What contracts see of a checker, what it answers, and claims that are fed to it one after the
+-- other.
 use Rattle.std.specs.Prelude.{◌≡◌, ◌⊎◌, ℕ, ◌+◌, List, [], ◌∷◌, ◌++◌, Option, Some, None}
 use Rattle.cert_text.specs.declared.answers.Refused.{Refused}
 use Rattle.cert_text.specs.declared.answers.Why.{Why}
@@ -10,8 +11,8 @@ use Rattle.cert_tree.specs.declared.judging.Cause.TheVariants as cause
 use Rattle.cert_tree.specs.declared.judging.Refusal.{Refusal}
 use Rattle.cert_file.specs.Subjects.{IsCertificate, Subject}
 
--- what is asked, what stands in front of the claims, the nodes that are owed, the next one first, how many claims were taken, and the
--- refusal that is kept
+-- what is asked, what stands in front of the claims, the nodes that are owed, the next one first,
+-- how many claims were taken, and the refusal that is kept
 pub record Checking (P H X : Type 0) : Type 0 where
   pub asked : P
   pub head : H
@@ -32,7 +33,8 @@ refused_by refusal = record { number = refusal.number; why = why_of refusal.caus
 abbrev pub opened_at : {P H X : Type 0} → P → H → X → Checking P H X
 opened_at asked head root = record { asked = asked; head = head; owed = root ∷ []; count = 0; refusal = None }
 
--- a claim is taken: it is true of the first node that is owed, and what it owes stands in the place of that
+-- a claim is taken: it is true of the first node that is owed, and what it owes stands in the place
+-- of that
 abbrev pub TakesOf : {P H X : Type 0} → Subject H X → Checking P H X → List X → Claim → Checking P H X → Type 0
 TakesOf subject old [] claim new = ⊥
 TakesOf subject old (p ∷ owed) claim new =

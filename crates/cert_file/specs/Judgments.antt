@@ -1,4 +1,5 @@
--- What the bytes of a certificate's file are found to be: the text of a valid certificate, or the first thing that is wrong with them.
+-- What the bytes of a certificate's file are found to be: the text of a valid certificate, or the
+-- first thing that is wrong with them.
 use Rattle.std.specs.Prelude.{◌≡◌, ℕ, ◌+◌, ◌≤◌, ◌⊎◌, List, [], ◌∷◌, ◌++◌, length}
 use Rattle.std.specs.Io.{StartsWith}
 use Rattle.cert_file.specs.Readings.{FaultAt, Files, MayBe, judged_bytes, longest_certificate}
@@ -13,7 +14,8 @@ use Rattle.cert_text.specs.Lines.{IsClaim, claim_line}
 use Rattle.fux_port.specs.Files.{HasFile}
 use Rattle.cert_file.specs.Subjects.{IsCertificateText, IsTextOf, Leaves, Subject}
 
--- the bytes are the text of the head, which is sound, and of so many claims, each true, that leave these nodes owed
+-- the bytes are the text of the head, which is sound, and of so many claims, each true, that leave
+-- these nodes owed
 pub record IsTaken {H X : Type 0} (subject : Subject H X) (head : H) (count : ℕ) (owed : List X) (bytes : List ℕ) : Type 0
   where
     pub sound : subject.IsSound head
@@ -85,13 +87,15 @@ Finds subject head files name it = MayBe files name (FindsIn subject head it)
 abbrev pub Shows : {H X : Type 0} → Subject H X → H → Verdict → Type 0
 Shows subject head it = (answer : Accepted) → it ≡ verdict.Accepted answer → subject.Holds head
 
--- what a verdict says of bytes by the head at their front; and that this head holds, where they are accepted
+-- what a verdict says of bytes by the head at their front; and that this head holds, where they are
+-- accepted
 pub record FindsBehind {H X : Type 0} (subject : Subject H X) (it : Verdict) (bytes : List ℕ) : Type 0 where
   pub head : H
   pub finds : FindsIn subject head it bytes
   pub shown : Shows subject head it
 
--- what a verdict says of bytes: why they are refused before any claim is judged, or what is found behind a head
+-- what a verdict says of bytes: why they are refused before any claim is judged, or what is found
+-- behind a head
 abbrev pub IsVerdictBy : {H X : Type 0} → Subject H X → Verdict → List ℕ → Type 0
 IsVerdictBy subject it bytes = subject.Refuses it bytes ⊎ FindsBehind subject it bytes
 

@@ -1,4 +1,5 @@
--- Where the reading of a certificate's file stands, and what comes next: a claim's line, the file's end, or a line that is none.
+-- Where the reading of a certificate's file stands, and what comes next: a claim's line, the file's
+-- end, or a line that is none.
 use Rattle.std.specs.Prelude.{◌≡◌, ◌≢◌, ℕ, ◌+◌, ◌-◌, ◌<◌, ◌≤◌, ◌⊎◌, Bool, true, false, ⊤, List, [], ◌++◌, Option, Some, None, Result, Ok, Err, length, take}
 use Rattle.std.specs.Io.{StartsWith}
 use Rattle.fux_port.specs.Files.{HasFile, MayHave}
@@ -11,7 +12,8 @@ use Rattle.cert_text.specs.Reading as text
 use Rattle.cert_file.specs.declared.fault.ReadFault.{ReadFault}
 use Rattle.cert_file.specs.declared.fault.ReadFault.TheVariants.{Unreadable, Text}
 
--- what contracts see of a reader: its claims, the bytes that were read and not used, and how many were read
+-- what contracts see of a reader: its claims, the bytes that were read and not used, and how many
+-- were read
 pub record Reading : Type 0 where
   pub claims : text.Reading
   pub ahead : List ℕ
@@ -29,7 +31,8 @@ reading_from next ahead offset = record {
 abbrev pub longest_piece : ℕ
 longest_piece = 65536
 
--- what contracts see of the pieces of a file: the bytes of the last one that weren't used, and how many bytes were read
+-- what contracts see of the pieces of a file: the bytes of the last one that weren't used, and how
+-- many bytes were read
 pub record Piece : Type 0 where
   pub ahead : List ℕ
   pub offset : ℕ
@@ -65,7 +68,8 @@ IfThere files name Such = (file : List ℕ) → HasFile files name file → Such
 abbrev pub Begins : List ℕ → List ℕ → Type 0
 Begins front bytes = StartsWith bytes front
 
--- a reader stands behind the front of a file: behind it are the bytes of a line that was begun, and those that were read and not used
+-- a reader stands behind the front of a file: behind it are the bytes of a line that was begun, and
+-- those that were read and not used
 pub record IsAt (files : Files) (name front : List ℕ) (reader : Reading) : Type 0 where
   pub begins : MayBe files name (Begins (front ++ (reader.claims.begun ++ reader.ahead)))
   pub next : reader.claims.next ≡ length front + length reader.claims.begun
@@ -82,8 +86,8 @@ longest_certificate = 1073741824
 abbrev pub judged_bytes : List ℕ → List ℕ
 judged_bytes bytes = take longest_certificate bytes
 
--- the line that is owed next: a claim's, if the file goes on; or one of what is stated, where a potential's line is owed or the line
--- `claims`
+-- the line that is owed next: a claim's, if the file goes on; or one of what is stated, where a
+-- potential's line is owed or the line `claims`
 pub data Owed : Type 0 where
   AClaim : Owed
   Stated : Bool → Owed
@@ -93,7 +97,8 @@ abbrev pub BeginsLine : Owed → List ℕ → Type 0
 BeginsLine AClaim bytes = BeginsClaim bytes
 BeginsLine (Stated is_potential) bytes = BeginsOwed is_potential bytes
 
--- a file that ends with these bytes wants the end of the line, or all of it; no claim is wanting where a file ends behind a line
+-- a file that ends with these bytes wants the end of the line, or all of it; no claim is wanting
+-- where a file ends behind a line
 abbrev pub IsWanting : Owed → List ℕ → Type 0
 IsWanting AClaim rest = rest ≢ []
 IsWanting (Stated is_potential) rest = ⊤
@@ -121,7 +126,8 @@ pub record EndsWithin (owed : Owed) (front bytes : List ℕ) : Type 0 where
   pub some : IsWanting owed rest
   pub begun : IsUnendedLine owed rest
 
--- the file goes on behind the last byte that is judged, and up to there no line behind a front is ended or wrong
+-- the file goes on behind the last byte that is judged, and up to there no line behind a front is
+-- ended or wrong
 pub record GoesBeyond (owed : Owed) (front bytes : List ℕ) : Type 0 where
   pub long : longest_certificate < length bytes
   pub rest : List ℕ
@@ -146,7 +152,8 @@ IsUnended rest = IsUnendedLine AClaim rest
 abbrev pub FaultAt : List ℕ → CertFault → List ℕ → Type 0
 FaultAt front fault bytes = FaultAtLine AClaim front fault bytes
 
--- the bytes that were used of a file are this front of it, and those that were read and not used stand behind it
+-- the bytes that were used of a file are this front of it, and those that were read and not used
+-- stand behind it
 pub record IsPlaced (files : Files) (name used : List ℕ) (piece : Piece) : Type 0 where
   pub begins : MayBe files name (Begins (used ++ piece.ahead))
   pub offset : piece.offset ≡ length used + length piece.ahead
@@ -156,7 +163,8 @@ pub record IsPast (files : Files) (name used : List ℕ) : Type 0 where
   pub full : length used ≡ longest_certificate
   pub more : MayBe files name (λ bytes. Begins used bytes × (length used < length bytes))
 
--- what the next piece of a file is, of which this front was used: there is one, or the file ended, or it is too long
+-- what the next piece of a file is, of which this front was used: there is one, or the file ended,
+-- or it is too long
 abbrev pub Continues : Files → List ℕ → Type 0 → List ℕ → Piece → Result Bool ReadFault → Type 0
 Continues files name rose used after (Ok true) = IsPlaced files name used after
 Continues files name rose used after (Ok false) = IsPlaced files name used after × MayHave files name used
@@ -169,7 +177,8 @@ abbrev pub ContinuesNext : Files → List ℕ → Type 0 → Piece → Piece →
 ContinuesNext files name rose before after result =
     (used : List ℕ) → IsPlaced files name used before → before.ahead ≡ [] → Continues files name rose used after result
 
--- what a reader behind a front gives next: the claim whose line stands there, the end, or what is wrong
+-- what a reader behind a front gives next: the claim whose line stands there, the end, or what is
+-- wrong
 abbrev pub Gives : Files → List ℕ → Type 0 → List ℕ → Reading → Result (Option Claim) ReadFault → Type 0
 Gives files name rose front after (Ok (Some claim)) = IsClaim claim × IsAt files name (front ++ claim_line claim) after
 Gives files name rose front after (Ok None) = MayHave files name front

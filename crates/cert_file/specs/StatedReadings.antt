@@ -1,5 +1,5 @@
--- Where the reading of what a certificate states stands, and what comes next: a potential's line, the line `claims`, or a line that is none
--- of them.
+-- Where the reading of what a certificate states stands, and what comes next: a potential's line,
+-- the line `claims`, or a line that is none of them.
 use Rattle.std.specs.Prelude.{◌≡◌, ℕ, ◌+◌, ◌≤◌, Bool, true, false, List, [], ◌++◌, Option, Some, None, Result, Ok, Err, length}
 use Rattle.fux_port.specs.Files.{MayHave}
 use Rattle.cert_text.specs.declared.answers.CertFault.{CertFault}
@@ -12,7 +12,8 @@ use Rattle.cert_file.specs.declared.fault.ReadFault.{ReadFault}
 use Rattle.cert_file.specs.declared.fault.ReadFault.TheVariants.{Unreadable, Text}
 use Rattle.cert_file.specs.Readings.{Begins, FaultAtLine, Files, MayBe, Owed, Piece, Stated}
 
--- what contracts see of a reader: its potentials, the bytes that were read and not used, and how many were read
+-- what contracts see of a reader: its potentials, the bytes that were read and not used, and how
+-- many were read
 pub record StatedReading : Type 0 where
   pub entries : PotentialReading
   pub ahead : List ℕ
@@ -31,7 +32,8 @@ pub record IsStatedReading (piece : Piece) (entries : PotentialReading) : Type 0
   pub limit : piece.offset ≤ 1073741824
   pub taken : entries.used + length piece.ahead ≤ piece.offset
 
--- a reader stands behind the front of a file: behind it are the bytes of a line that was begun, and those that were read and not used
+-- a reader stands behind the front of a file: behind it are the bytes of a line that was begun, and
+-- those that were read and not used
 pub record IsAtStated (files : Files) (name front : List ℕ) (reader : StatedReading) : Type 0 where
   pub begins : MayBe files name (Begins (front ++ (reader.entries.begun ++ reader.ahead)))
   pub next : reader.entries.next ≡ length front + length reader.entries.begun
@@ -55,7 +57,8 @@ pub record HasGiven (before after : StatedReading) (more : ℕ) : Type 0 where
   pub given : after.entries.given ≡ before.entries.given + more
   pub count : after.entries.count ≡ before.entries.count
 
--- what a reader behind a front gives next: the potential whose line stands there, the line `claims`, or what is wrong
+-- what a reader behind a front gives next: the potential whose line stands there, the line
+-- `claims`, or what is wrong
 abbrev pub GivesStated : Files → List ℕ → Type 0 → List ℕ → StatedReading → StatedReading
     → Result (Option Potential) ReadFault → Type 0
 GivesStated files name rose front before after (Ok (Some potential)) =
@@ -73,7 +76,8 @@ abbrev pub GivesNextStated : Files → List ℕ → Type 0 → StatedReading →
 GivesNextStated files name rose before after result =
     (front : List ℕ) → IsAtStated files name front before → GivesStated files name rose front before after result
 
--- what a reader makes of the piece alone: of a potential's line, of the line `claims`, or of a piece that is used up before a line ends
+-- what a reader makes of the piece alone: of a potential's line, of the line `claims`, or of a
+-- piece that is used up before a line ends
 abbrev pub TakesLines : Files → List ℕ → List ℕ → StatedReading → StatedReading → Option Potential → Bool → Type 0
 TakesLines files name front before after (Some potential) done =
     IsPotential potential × (owes_potential before.entries ≡ true)

@@ -1,5 +1,5 @@
--- What a certificate may be about, whatever stands in front of its claims: the texts of that, which of it is sound, and the tree of whose
--- nodes claims are.
+-- What a certificate may be about, whatever stands in front of its claims: the texts of that, which
+-- of it is sound, and the tree of whose nodes claims are.
 use Rattle.std.specs.Prelude.{◌≡◌, ℕ, ◌≤◌, List, [], ◌∷◌, ◌++◌, length}
 use Rattle.std.specs.List.{AllByRecursion, flat_map}
 use Rattle.cert_file.specs.Readings.{Files, IsAt, Reading, longest_certificate}
@@ -9,9 +9,10 @@ use Rattle.cert_text.specs.declared.claim.Claim.{Claim}
 use Rattle.cert_text.specs.Lines.{IsClaim, claim_line}
 use Rattle.cert_tree.specs.Trees.{IsCertifiedFrom, Tree, owed_by}
 
--- the texts of a head H, which is all that stands in front of claims, whether it is sound, what a verdict says of bytes that are refused
--- before any claim is judged, the tree of the claims behind a head and the root of that, what the head shows where it is accepted, and
--- whether what it says holds
+-- the texts of a head H, which is all that stands in front of claims, whether it is sound, what a
+-- verdict says of bytes that are refused before any claim is judged, the tree of the claims behind
+-- a head and the root of that, what the head shows where it is accepted, and whether what it says
+-- holds
 pub record Subject (H X : Type 0) : Type 1 where
   pub IsHead : H → List ℕ → Type 0
   pub IsSound : H → Type 0

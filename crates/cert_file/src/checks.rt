@@ -25,13 +25,15 @@ pub trait Checks {
     /// What contracts see of a checker.
     ghost seen: { Self → Checking Asked Head Node };
 
-    /// Judges a claim of the node that is owed next. It is taken where it is true of it; after a refusal every call answers the same.
+    /// Judges a claim of the node that is owed next. It is taken where it is true of it; after a
+    /// refusal every call answers the same.
     fn feed(&mut self, claim: Claim) -> Result<(), Refused>
         requires { (seen self.old).count < 2 ^ 40 }
         ensures taken { (seen self.old).refusal ≡ None → OnOk result
             (Takes (subject (seen self.old).asked) (seen self.old) claim (seen self.new)) }
-        ensures refused { (seen self.old).refusal ≡ None → IfErr result
-            (λ refused. Refuses (subject (seen self.old).asked) (seen self.old) claim refused (seen self.new)) }
+        ensures refused { (seen self.old).refusal ≡ None
+            → IfErr result (λ refused. Refuses (subject (seen self.old).asked) (seen self.old) claim
+            refused (seen self.new)) }
         ensures again { (refused : ARefused) → (seen self.old).refusal ≡ Some refused
             → (result ≡ Err refused) × (seen self.new ≡ seen self.old) };
 
@@ -42,10 +44,13 @@ pub trait Checks {
             → result ≡ Ok ((subject (seen self.now).asked).accepted (seen self.now).head) }
         ensures short { (seen self.now).refusal ≡ None → (seen self.now).owed ≢ []
             → result ≡ Err (record { number = (seen self.now).count + 1; why = whys.Short }) }
-        ensures again { (refused : ARefused) → (seen self.now).refusal ≡ Some refused → result ≡ Err refused }
+        ensures again { (refused : ARefused) → (seen self.now).refusal ≡ Some refused → result
+            ≡ Err refused }
         ensures shown { OnOk result ((subject (seen self.now).asked).Holds (seen self.now).head) }
 
-        // Where all claims since the checker was opened were fed to it: they are a certificate with its head, or not.
-        ensures certified { OnOk result (IsFedCertificate (subject (seen self.now).asked) (seen self.now)) }
+        // Where all claims since the checker was opened were fed to it: they are a certificate with
+        // its head, or not.
+        ensures certified { OnOk result (IsFedCertificate (subject (seen self.now).asked)
+            (seen self.now)) }
         ensures uncertified { OnErr result (IsFedNone (subject (seen self.now).asked) (seen self.now)) };
 }

@@ -9,7 +9,8 @@ ghost use Rattle.cert_file.specs.Readings.{IfThere};
 
 use fux_port::{Failed, Shelf};
 
-/// Reads bytes of a file from an offset on into the front of a buffer, in one read, and no more than are wanted.
+/// Reads bytes of a file from an offset on into the front of a buffer, in one read, and no more
+/// than are wanted.
 pub fn read_piece<F: Shelf>(
     shelf: &mut F,
     name: &str,
@@ -37,7 +38,8 @@ pub fn read_piece<F: Shelf>(
     shelf.read_at(name, offset, &mut buf[..wanted])
 }
 
-/// Reads the first bytes of a file into a buffer, as many as it has room for, or all of a shorter file, and answers how many.
+/// Reads the first bytes of a file into a buffer, as many as it has room for, or all of a shorter
+/// file, and answers how many.
 pub fn fill<F: Shelf>(shelf: &mut F, name: &str, buf: &mut [u8]) -> Result<usize, Failed>
     ensures long { length buf.new ≡ length buf.old }
     ensures fits { IfOk result (λ count. count ≤ length buf.old) }

@@ -15,20 +15,21 @@ use crate::reader::Reader;
 use crate::verdict::Verdict;
 use fux_port::{Failed, Shelf};
 
-/// Judges the claims behind what stands in front of them, each as it is read, up to the first thing that is wrong or the end of the file.
+/// Judges the claims behind what stands in front of them, each as it is read, up to the first thing
+/// that is wrong or the end of the file.
 pub fn judge<F: Shelf, C: Checks + Drop>(
     shelf: &mut F,
     name: &str,
     reader: &mut Reader,
     mut checker: C,
 ) -> Result<Verdict, Failed>
-    requires fresh { C.seen checker
-        ≡ opened_at (C.seen checker).asked (C.seen checker).head (C.subject (C.seen checker).asked).root }
+    requires fresh { C.seen checker ≡ opened_at (C.seen checker).asked (C.seen checker).head
+        (C.subject (C.seen checker).asked).root }
     requires sound { (C.subject (C.seen checker).asked).IsSound (C.seen checker).head }
-    requires opened { IsOpened (C.subject (C.seen checker).asked).IsHead (F.files shelf.old) name.now (C.seen checker).head
-        reader.old }
-    ensures finds { IfOk result
-        (Finds (C.subject (C.seen checker).asked) (C.seen checker).head (F.files shelf.old) name.now) }
+    requires opened { IsOpened (C.subject (C.seen checker).asked).IsHead (F.files shelf.old)
+        name.now (C.seen checker).head reader.old }
+    ensures finds { IfOk result (Finds (C.subject (C.seen checker).asked) (C.seen checker).head
+        (F.files shelf.old) name.now) }
     ensures shown { IfOk result (Shows (C.subject (C.seen checker).asked) (C.seen checker).head) }
     ensures cause { OnErr result (Rose (F.faults shelf.old) (F.faults shelf.new)) }
     ensures served { ServesWhole (F.serves shelf.old) name.now 1073741824 → IsOk result }
@@ -56,10 +57,10 @@ pub fn judge<F: Shelf, C: Checks + Drop>(
 fn at_end<C: Checks>(checker: &C) -> Verdict
     requires count { (C.seen checker.now).count ≤ 2 ^ 40 }
     requires clear { (C.seen checker.now).refusal ≡ None }
-    ensures accepted { (C.seen checker.now).owed ≡ []
-        → result ≡ verdicts.Accepted ((C.subject (C.seen checker.now).asked).accepted (C.seen checker.now).head) }
-    ensures short { (C.seen checker.now).owed ≢ [] →
-        result ≡ verdicts.Claim (record { number = (C.seen checker.now).count + 1; why = whys.Short }) }
+    ensures accepted { (C.seen checker.now).owed ≡ [] → result ≡ verdicts.Accepted
+        ((C.subject (C.seen checker.now).asked).accepted (C.seen checker.now).head) }
+    ensures short { (C.seen checker.now).owed ≢ [] → result
+        ≡ verdicts.Claim (record { number = (C.seen checker.now).count + 1; why = whys.Short }) }
     ensures shown { Shows (C.subject (C.seen checker.now).asked) (C.seen checker.now).head result }
 {
     match checker.finish() {

@@ -1,5 +1,6 @@
-//! The file of a certificate, read in pieces: its first bytes, what it states behind its head, its claims, how they are judged one by one,
-//! and the line that tells what the file is found to be. It knows nothing of what a certificate is about.
+//! The file of a certificate, read in pieces: its first bytes, what it states behind its head, its
+//! claims, how they are judged one by one, and the line that tells what the file is found to be. It
+//! knows nothing of what a certificate is about.
 #![tactic(auto)]
 
 mod checks;

@@ -47,7 +47,11 @@ impl Pieces {
         requires long { length piece.items ≡ longest_piece }
         requires from { from ≤ to }
         requires to { to ≤ longest_piece }
-        ensures { result ≡ record { ahead = take (to - from) (drop from piece.items); offset = to } }
+        ensures { result ≡ record {
+          ahead = take (to - from) (drop from piece.items);
+          offset
+              = to;
+        } }
     {
         Pieces {
             piece,
@@ -88,12 +92,15 @@ impl Pieces {
             (Rose (F.faults shelf.old) (F.faults shelf.new)) self.old self.new result }
         ensures grows { result ≡ Ok true → self.old.offset < self.new.offset }
         ensures limit { self.new.offset ≤ 1073741824 }
-        ensures fits { length self.new.ahead + self.old.offset ≤ self.new.offset + length self.old.ahead }
+        ensures fits { length self.new.ahead + self.old.offset ≤ self.new.offset
+            + length self.old.ahead }
         ensures served { ServesWhole (F.serves shelf.old) name.now 1073741824
             → IfErr result (λ fault. fault ≢ ReadFault.Unreadable) }
         ensures serving { Keeps (F.serves shelf.old) (F.serves shelf.new) }
-        ensures little { F.given shelf.new + self.old.offset ≤ F.given shelf.old + (self.new.offset + 1) }
-        ensures told { OnOk result (F.given shelf.new + self.old.offset ≤ F.given shelf.old + self.new.offset) }
+        ensures little { F.given shelf.new + self.old.offset ≤ F.given shelf.old
+            + (self.new.offset + 1) }
+        ensures told { OnOk result (F.given shelf.new + self.old.offset ≤ F.given shelf.old
+            + self.new.offset) }
         ensures files { F.files shelf.new ≡ F.files shelf.old }
         ensures faults { F.faults shelf.old ≤ F.faults shelf.new }
     {

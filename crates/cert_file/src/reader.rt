@@ -41,7 +41,8 @@ impl Reader {
 
     /// A reader that goes on at the first byte that wasn't used, at which a line begins.
     pub fn behind(pieces: Pieces) -> Reader
-        ensures { result ≡ reading_from (pieces.offset - length pieces.ahead) pieces.ahead pieces.offset }
+        ensures { result ≡ reading_from (pieces.offset - length pieces.ahead) pieces.ahead
+            pieces.offset }
     {
         let claims = Claims::new(pieces.next());
         Reader { pieces, claims }
@@ -62,8 +63,10 @@ impl Reader {
         ensures serving { Keeps (F.serves shelf.old) (F.serves shelf.new) }
 
         // The offset counts what was read, but for a byte that shows that the file is too long.
-        ensures little { F.given shelf.new + self.old.offset ≤ F.given shelf.old + (self.new.offset + 1) }
-        ensures told { OnOk result (F.given shelf.new + self.old.offset ≤ F.given shelf.old + self.new.offset) }
+        ensures little { F.given shelf.new + self.old.offset ≤ F.given shelf.old
+            + (self.new.offset + 1) }
+        ensures told { OnOk result (F.given shelf.new + self.old.offset ≤ F.given shelf.old
+            + self.new.offset) }
 
         ensures files { F.files shelf.new ≡ F.files shelf.old }
         ensures faults { F.faults shelf.old ≤ F.faults shelf.new }
@@ -116,8 +119,10 @@ impl Reader {
         ensures served { ServesWhole (F.serves shelf.old) name.now 1073741824
             → IfErr result (λ fault. fault ≢ ReadFault.Unreadable) }
         ensures serving { Keeps (F.serves shelf.old) (F.serves shelf.new) }
-        ensures little { F.given shelf.new + self.old.offset ≤ F.given shelf.old + (self.new.offset + 1) }
-        ensures told { OnOk result (F.given shelf.new + self.old.offset ≤ F.given shelf.old + self.new.offset) }
+        ensures little { F.given shelf.new + self.old.offset ≤ F.given shelf.old
+            + (self.new.offset + 1) }
+        ensures told { OnOk result (F.given shelf.new + self.old.offset ≤ F.given shelf.old
+            + self.new.offset) }
         ensures files { F.files shelf.new ≡ F.files shelf.old }
         ensures faults { F.faults shelf.old ≤ F.faults shelf.new }
     {

@@ -31,9 +31,11 @@ impl Model for StatedReader {
 }
 
 impl StatedReader {
-    /// A reader of so many potentials, which goes on at the first byte that wasn't used, at which the line of the first of them begins.
+    /// A reader of so many potentials, which goes on at the first byte that wasn't used, at which
+    /// the line of the first of them begins.
     pub fn behind(pieces: Pieces, count: u64) -> StatedReader
-        ensures { result ≡ stated_from (pieces.offset - length pieces.ahead) count pieces.ahead pieces.offset }
+        ensures { result ≡ stated_from (pieces.offset - length pieces.ahead) count pieces.ahead
+            pieces.offset }
     {
         let entries = Potentials::new(pieces.next(), count);
         StatedReader { pieces, entries }
@@ -48,7 +50,8 @@ impl StatedReader {
         requires { self.old.entries.done ≡ false }
         ensures gives { GivesNextStated (F.files shelf.old) name.now
             (Rose (F.faults shelf.old) (F.faults shelf.new)) self.old self.new result }
-        ensures more { IfOk result (λ potential. IfSome potential (λ _. self.new.entries.done ≡ false)) }
+        ensures more { IfOk result (λ potential. IfSome potential (λ _. self.new.entries.done
+            ≡ false)) }
 
         // The rest is as `next` of `Reader` has it.
         ensures limit { self.old.offset ≤ 1073741824 }
@@ -56,8 +59,10 @@ impl StatedReader {
         ensures served { ServesWhole (F.serves shelf.old) name.now 1073741824
             → IfErr result (λ fault. fault ≢ ReadFault.Unreadable) }
         ensures serving { Keeps (F.serves shelf.old) (F.serves shelf.new) }
-        ensures little { F.given shelf.new + self.old.offset ≤ F.given shelf.old + (self.new.offset + 1) }
-        ensures told { OnOk result (F.given shelf.new + self.old.offset ≤ F.given shelf.old + self.new.offset) }
+        ensures little { F.given shelf.new + self.old.offset ≤ F.given shelf.old
+            + (self.new.offset + 1) }
+        ensures told { OnOk result (F.given shelf.new + self.old.offset ≤ F.given shelf.old
+            + self.new.offset) }
         ensures files { F.files shelf.new ≡ F.files shelf.old }
         ensures faults { F.faults shelf.old ≤ F.faults shelf.new }
     {
@@ -85,7 +90,8 @@ impl StatedReader {
         ensures takes { (files : Files) (name front : List ℕ) → IsAtStated files name front self.old
             → TakesStated files name front self.old self.new result }
         ensures done { IfOk result (λ taken. self.new.entries.done ≡ taken.done) }
-        ensures more { IfOk result (λ taken. IfSome taken.potential (λ _. self.new.entries.done ≡ false)) }
+        ensures more { IfOk result (λ taken. IfSome taken.potential (λ _. self.new.entries.done
+            ≡ false)) }
         ensures offset { self.new.offset ≡ self.old.offset }
         ensures limit { self.old.offset ≤ 1073741824 }
     {
@@ -116,8 +122,10 @@ impl StatedReader {
         ensures served { ServesWhole (F.serves shelf.old) name.now 1073741824
             → IfErr result (λ fault. fault ≢ ReadFault.Unreadable) }
         ensures serving { Keeps (F.serves shelf.old) (F.serves shelf.new) }
-        ensures little { F.given shelf.new + self.old.offset ≤ F.given shelf.old + (self.new.offset + 1) }
-        ensures told { OnOk result (F.given shelf.new + self.old.offset ≤ F.given shelf.old + self.new.offset) }
+        ensures little { F.given shelf.new + self.old.offset ≤ F.given shelf.old
+            + (self.new.offset + 1) }
+        ensures told { OnOk result (F.given shelf.new + self.old.offset ≤ F.given shelf.old
+            + self.new.offset) }
         ensures files { F.files shelf.new ≡ F.files shelf.old }
         ensures faults { F.faults shelf.old ≤ F.faults shelf.new }
     {

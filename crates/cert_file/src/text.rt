@@ -48,7 +48,8 @@ fn refused_text(alloc: Global, refused: Refused) -> Result<String, Memory>
     Ok(text)
 }
 
-/// At which byte the text is refused, and what is wrong there. Memory isn't the text's fault, and has no line.
+/// At which byte the text is refused, and what is wrong there. Memory isn't the text's fault, and
+/// has no line.
 fn fault_text(alloc: Global, fault: CertFault) -> Result<String, Memory>
     ensures { IfOk result (λ text. string_bytes text ≡ fault_line fault) }
 {

@@ -1,5 +1,5 @@
--- The breaks of a rule in a prefix that is longer by a column (`breaks-push`), and that a prefix is orderly just where it has none of
--- S3 (`shapes_unbroken`, `unbroken_shapes`).
+-- The breaks of a rule in a prefix that is longer by a column (`breaks-push`), and that a prefix is
+-- orderly just where it has none of S3 (`shapes_unbroken`, `unbroken_shapes`).
 use Rattle.std.proofs.Common.{◌≡◌, ℕ, suc, ◌+◌, ◌<◌, ◌≤◌, Bool, true, false, ◌&&◌, ◌||◌, List, [], ◌∷◌, ◌++◌, length, reverse, slice_index_or, take, refl, ap, sym, ◌∙◌, subst, arith, true≢false}
 use Rattle.std.specs.List.{list_any}
 use Rattle.std.proofs.Math.ListN.{get_or-append}

@@ -1,5 +1,6 @@
--- What a column costs behind another is at most 7,864,200 (`link_low`): a toll costs 6 at most, twenty tolls are read at most, and a weight
--- has sixteen bits. So the least sum over the chains of 192 columns is below 2^32, and so is each entry that is written (`entries_small`).
+-- What a column costs behind another is at most 7,864,200 (`link_low`): a toll costs 6 at most,
+-- twenty tolls are read at most, and a weight has sixteen bits. So the least sum over the chains of
+-- 192 columns is below 2^32, and so is each entry that is written (`entries_small`).
 use Rattle.std.proofs.Common.{◌≡◌, ℕ, zero, suc, ◌+◌, ◌*◌, ◌≤◌, Bool, true, false, List, [], ◌∷◌, Option, Some, None, length, refl, subst, arith, if◌then◌else◌}
 use Rattle.std.specs.Prelude.{◌-◌, ◌++◌, ◌&&◌, ◌==◌, map, nat_lt, slice_index_or}
 use Rattle.std.specs.Int.{from_bool}

@@ -1,5 +1,5 @@
--- True entries are at most the least sums over chains (`entries_are_low`): backwards from the last place, each least sum goes through a
--- column whose entry is at most the least sum behind it.
+-- True entries are at most the least sums over chains (`entries_are_low`): backwards from the last
+-- place, each least sum goes through a column whose entry is at most the least sum behind it.
 use Rattle.std.proofs.Common.{◌≡◌, ℕ, zero, suc, ◌+◌, ◌-◌, ◌<◌, ◌≤◌, ◌⊎◌, inl, inr, Bool, true, false, List, [], ◌∷◌, Option, Some, None, length, map, min, get_or, refl, sym, ap, ◌∙◌, subst, arith}
 use Rattle.std.specs.Prelude.{IsSomeAnd, if◌then◌else◌}
 use Rattle.std.proofs.lemmas.Bool.{cases_lt}

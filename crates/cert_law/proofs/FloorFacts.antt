@@ -1,5 +1,5 @@
--- Each prefix that begins a lawful setting has a floor, which is at most the setting's penalty, and that of a lawful setting is its
--- penalty (`floors_hold`).
+-- Each prefix that begins a lawful setting has a floor, which is at most the setting's penalty, and
+-- that of a lawful setting is its penalty (`floors_hold`).
 use Rattle.std.proofs.Common.{◌≡◌, ℕ, ◌+◌, ◌≤◌, false, List, [], ◌∷◌, ◌++◌, Option, Some, None, refl, ap, sym, ◌∙◌, subst, arith}
 use Rattle.std.specs.Prelude.{IsSome, IsSomeAnd, option_map}
 use Rattle.cert_law.proofs.Prefixes.{append-middle}

@@ -1,5 +1,5 @@
--- What is known of a prefix, its tail among it (`tail_moved`): each prefix of which the same is known is open too (`open_same`), and
--- goes on by the column of a number (`step_goes_on`).
+-- What is known of a prefix, its tail among it (`tail_moved`): each prefix of which the same is
+-- known is open too (`open_same`), and goes on by the column of a number (`step_goes_on`).
 use Rattle.std.proofs.Common.{◌≡◌, ℕ, ◌*◌, ◌<◌, ◌≤◌, true, List, [], ◌∷◌, ◌++◌, Option, Some, None, length, map, reverse, slice_index_or, ap, sym, ◌∙◌, subst, arith}
 use Rattle.std.specs.Prelude.{nat_lt}
 use Rattle.std.proofs.lemmas.Bool.{and_from, and_parts, lt-ltb, ltb-true}
@@ -27,7 +27,7 @@ use Rattle.fux_grid.proofs.MenuLemmas.{menu_of-contains, menu_of-full}
 use Rattle.cert_law.specs.Certificates.{is_open}
 use Rattle.cert_law.specs.Claims.{IsTrueOf}
 use Rattle.penalty_sheet.specs.declared.sheet.Sheet.{Sheet}
-use Rattle.rule_law.specs.Prefixes.{GoesOn, IsPrefix}
+use Rattle.rule_law.specs.Prefixes.{GoesOn}
 
 -- a prefix that isn't complete, and is orderly
 pub record GoesFurther (t : Matter) (p : List (List Cell)) : Type 0 where

@@ -1,4 +1,5 @@
--- The columns that pass from a number on, where the column of the number passes or not (`passing_here`, `passing_later`).
+-- The columns that pass from a number on, where the column of the number passes or not
+-- (`passing_here`, `passing_later`).
 use Rattle.std.proofs.Common.{◌≡◌, ℕ, suc, ◌+◌, ◌<◌, Bool, true, false, List, [], ◌∷◌, Option, drop, length, reverse, slice_index_or, ap, sym, ◌∙◌, subst, add-one, if◌then◌else◌}
 use Rattle.std.specs.List.{filter}
 use Rattle.std.proofs.Math.Seq.{drop-cons}
@@ -39,7 +40,8 @@ pub follow_from : (before next col : List Cell) → next ≡ col → column_foll
 follow_from before next col e h =
     subst (λ (c : List Cell). ColumnFollows before c) (sym e) ((column_follows_is before col).0 h)
 
--- a number found in the menu of a place, behind some cells, is one behind the prefix that has that length and ends so
+-- a number found in the menu of a place, behind some cells, is one behind the prefix that has that
+-- length and ends so
 pub number_moved : (there ex : Exercise) (i : ℕ) (p : List (List Cell)) (before : List Cell) (from : ℕ)
     (found : Option ℕ)
     → there ≡ ex → i ≡ length p → before ≡ newest_column (reverse p)

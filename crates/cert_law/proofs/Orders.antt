@@ -1,5 +1,5 @@
--- How two lists go by their first difference, and reading order (`order-less`, `less-order`); of lists of one length, only those that
--- are one differ nowhere (`order-equal`, `order-itself`).
+-- How two lists go by their first difference, and reading order (`order-less`, `less-order`); of
+-- lists of one length, only those that are one differ nowhere (`order-equal`, `order-itself`).
 use Rattle.std.proofs.Common.{◌≡◌, inl, inr, ◌<◌, List, [], ◌∷◌, ◌++◌, length, slice_index_or, refl, ap, sym, ◌∙◌, arith}
 use Rattle.std.specs.Ordering.{ordering_then}
 use Rattle.std.specs.declared.cmp.Ordering.{Ordering}

@@ -1,5 +1,5 @@
--- What begins a lawful setting: no strict break is settled in it (`begun_unbroken`), and where it isn't whole, the setting goes on
--- by one of the columns that may come next (`begun_longer`).
+-- What begins a lawful setting: no strict break is settled in it (`begun_unbroken`), and where it
+-- isn't whole, the setting goes on by one of the columns that may come next (`begun_longer`).
 use Rattle.std.proofs.Common.{◌≡◌, ◌⊎◌, inl, inr, ℕ, zero, suc, ◌+◌, ◌<◌, ◌≤◌, ◌==◌, Bool, true, false, ◌||◌, List, [], ◌∷◌, ◌++◌, length, map, reverse, slice_index_or, take, refl, ap, sym, ◌∙◌, subst, arith, true≢false}
 use Rattle.std.specs.List.{Contains, filter, list_any}
 use Rattle.std.proofs.Math.ListN.{get_or-append}

@@ -1,5 +1,5 @@
--- Entries that state the least sums over chains are true (`rests_are_true`): each is at most the sum through each column that may come
--- next.
+-- Entries that state the least sums over chains are true (`rests_are_true`): each is at most the
+-- sum through each column that may come next.
 use Rattle.std.proofs.Common.{◌≡◌, ℕ, zero, suc, ◌+◌, ◌-◌, ◌<◌, ◌≤◌, List, [], ◌∷◌, Option, Some, None, length, map, min, get_or, refl, sym, ap, ◌∙◌, subst, arith}
 use Rattle.std.specs.Prelude.{IfSome}
 use Rattle.cert_text.specs.declared.potential.Potential.{Potential}

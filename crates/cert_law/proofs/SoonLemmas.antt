@@ -1,6 +1,7 @@
--- The least rule of a prefix with a column more is the least one that the column breaks, where none was broken before (`least_more`).
-use Rattle.std.proofs.Common.{◌≡◌, ℕ, ◌==◌, ◌&&◌, ◌||◌, Bool, true, false, List, [], ◌∷◌, ◌++◌, Some, length, refl, ap, sym, ◌∙◌}
-use Rattle.std.specs.List.{find, list_all}
+-- The least rule of a prefix with a column more is the least one that the column breaks, where none
+-- was broken before (`least_more`).
+use Rattle.std.proofs.Common.{◌≡◌, ℕ, ◌==◌, ◌&&◌, ◌||◌, Bool, true, false, List, [], ◌∷◌, ◌++◌, Some, length, refl, ap, ◌∙◌}
+use Rattle.std.specs.List.{list_all}
 use Rattle.cert_law.specs.Claims.{has_break_of}
 use Rattle.cert_law.specs.Soon.{has_length}
 use Rattle.cert_law.specs.Writer.{columns_order, is_equal, is_setting_of, least_break}

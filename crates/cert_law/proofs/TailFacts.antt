@@ -1,5 +1,6 @@
--- By its tail each prefix that begins a lawful setting has a floor, which is at most the setting's penalty (`tails_hold`): the tail is
--- the least sum over chains, or a true entry, and that is at most the least sum.
+-- By its tail each prefix that begins a lawful setting has a floor, which is at most the setting's
+-- penalty (`tails_hold`): the tail is the least sum over chains, or a true entry, and that is at
+-- most the least sum.
 use Rattle.std.proofs.Common.{◌≡◌, ℕ, ◌+◌, ◌≤◌, ◌⊎◌, inl, inr, List, [], ◌∷◌, ◌++◌, Option, Some, None, length, refl, sym, subst, arith}
 use Rattle.std.specs.Prelude.{IfSome, IsSomeAnd, option_map}
 use Rattle.cert_text.specs.declared.potential.Potential.{Potential}

@@ -1,5 +1,6 @@
--- What tails are: of a prefix that is longer by a column of its place's menu, the entry of the column's number (`stated-push`), and
--- the least sum where entries state just that (`tail_is_rest`).
+-- What tails are: of a prefix that is longer by a column of its place's menu, the entry of the
+-- column's number (`stated-push`), and the least sum where entries state just that
+-- (`tail_is_rest`).
 use Rattle.std.proofs.Common.{◌≡◌, ℕ, suc, ◌+◌, ◌-◌, ◌<◌, ◌≤◌, ◌⊎◌, inl, inr, Bool, true, List, [], ◌∷◌, ◌++◌, Option, Some, None, length, reverse, get_or, refl, sym, ap, ◌∙◌, subst, arith, true≢false}
 use Rattle.std.specs.Prelude.{IfSome, option_map}
 use Rattle.std.specs.List.{Contains}

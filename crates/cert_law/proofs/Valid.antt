@@ -1,4 +1,5 @@
--- A valid certificate's head holds (`certificate_holds`), since true claims exclude what refutes a sound head (`excludes_refuting`).
+-- A valid certificate's head holds (`certificate_holds`), since true claims exclude what refutes a
+-- sound head (`excludes_refuting`).
 use Rattle.std.proofs.Common.{◌≡◌, ◌≢◌, ◌⊎◌, inl, inr, ℕ, ◌+◌, ◌<◌, ◌≤◌, true, false, List, [], ◌∷◌, ◌++◌, length, Option, Some, None, refl, ap, sym, ◌∙◌, subst, arith}
 use Rattle.std.specs.Prelude.{IsSomeAnd, option_map}
 use Rattle.std.proofs.lemmas.Bool.{cases_lt}

@@ -1,6 +1,7 @@
--- What is written for a head that holds is a valid certificate (`written_is_valid`): the first claim of each prefix is true (`all_true`),
--- since a whole setting that is alive is the head's, or no better.
-use Rattle.std.proofs.Common.{◌≡◌, ◌≢◌, ◌⊎◌, inl, inr, ℕ, zero, suc, ◌+◌, ◌<◌, ◌≤◌, ◌==◌, nat_lt, Bool, true, false, ◌&&◌, ◌||◌, List, [], ◌∷◌, ◌++◌, if◌then◌else◌, length, map, reverse, slice_index_or, take, Option, Some, None, refl, ap, sym, ◌∙◌, subst, arith, append_assoc, true≢false}
+-- What is written for a head that holds is a valid certificate (`written_is_valid`): the first
+-- claim of each prefix is true (`all_true`), since a whole setting that is alive is the head's, or
+-- no better.
+use Rattle.std.proofs.Common.{◌≡◌, ◌≢◌, ◌⊎◌, inl, inr, ℕ, zero, suc, ◌+◌, ◌<◌, ◌≤◌, ◌==◌, nat_lt, Bool, true, false, ◌&&◌, ◌||◌, List, [], ◌∷◌, ◌++◌, if◌then◌else◌, length, map, reverse, slice_index_or, take, Option, Some, None, refl, ap, sym, ◌∙◌, subst, arith, true≢false}
 use Rattle.std.specs.Prelude.{IfSome, IsSomeAnd, is_none}
 use Rattle.std.specs.List.{AllByRecursion, filter, find, flat_map, list_all, list_any}
 use Rattle.std.specs.Option.{option_map_or}
@@ -30,7 +31,7 @@ use Rattle.cert_law.proofs.Prefixes.{prefix-push}
 use Rattle.cert_law.proofs.Orders.{less-order, order-equal, order-itself, order-less}
 use Rattle.chain_sums.specs.Sums.{column_follows}
 use Rattle.chain_sums.proofs.SumLemmas.{column_follows_is}
-use Rattle.floor_tables.specs.Floors.{floor_of, rest_of}
+use Rattle.floor_tables.specs.Floors.{rest_of}
 use Rattle.fux_grid.specs.declared.cell.Cell.{Cell}
 use Rattle.fux_grid.specs.declared.exercise.Exercise.{Exercise}
 use Rattle.fux_grid.specs.Columns.{ColumnFollows, newest_column}

@@ -1,5 +1,5 @@
--- The entries that are written state the least sums over chains (`entries_are_rests`, `stated_are_rests`), and those are what tables say
--- (`start_is_rest`, `rest_is_behind`).
+-- The entries that are written state the least sums over chains (`entries_are_rests`,
+-- `stated_are_rests`), and those are what tables say (`start_is_rest`, `rest_is_behind`).
 use Rattle.std.proofs.Common.{◌≡◌, ℕ, zero, suc, ◌+◌, ◌-◌, ◌<◌, ◌≤◌, [], Option, Some, None, length, refl, sym, ap, ◌∙◌, subst, arith, length-append, List}
 use Rattle.std.specs.Prelude.{IfSome, slice_index_or}
 use Rattle.std.proofs.Math.ListN.{get_or-append}

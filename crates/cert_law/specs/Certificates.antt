@@ -1,5 +1,6 @@
--- Certificates: a head, in the second form entries, and claims, those of the prefixes in preorder from the empty one; each of them
--- true. What a head says is refuted by some lawful settings; a valid certificate shows that there is none.
+-- Certificates: a head, in the second form entries, and claims, those of the prefixes in preorder
+-- from the empty one; each of them true. What a head says is refuted by some lawful settings; a
+-- valid certificate shows that there is none.
 use Rattle.std.specs.Prelude.{◌≡◌, ◌<◌, ◌⊎◌, Bool, true, false, List, [], ◌++◌, Option, IfSome, ⊤}
 use Rattle.cert_text.specs.declared.answers.CertHead.{CertHead}
 use Rattle.cert_text.specs.declared.answers.CertHead.TheVariants.{Best, Nothing}
@@ -48,8 +49,8 @@ Holds ex sheet Nothing = HasNoLawful ex
 Holds ex sheet (Best penalty score) =
     IsBest ex sheet score.columns × (penalty_of ex sheet score.columns ≡ penalty)
 
--- a setting is better than the head's: it has a lesser penalty, or the same one and is earlier in reading order. Every setting is
--- better than none
+-- a setting is better than the head's: it has a lesser penalty, or the same one and is earlier in
+-- reading order. Every setting is better than none
 abbrev pub IsBetter : Exercise → Sheet → CertHead → List (List Cell) → Type 0
 IsBetter ex sheet Nothing t = ⊤
 IsBetter ex sheet (Best penalty score) t =

@@ -20,7 +20,8 @@ use Rattle.fux_judge.specs.Rules.{is_read}
 use Rattle.penalty_sheet.specs.declared.sheet.Sheet.{Sheet}
 use Rattle.rule_law.specs.Growth.{any_below}
 
--- the columns that may come next after a prefix, in reading order: those of the menu that follow its last column
+-- the columns that may come next after a prefix, in reading order: those of the menu that follow
+-- its last column
 abbrev pub next_columns : Exercise → List (List Cell) → List (List Cell)
 next_columns ex p = filter (column_follows (newest_column (reverse p))) (menu_of ex (length p))
 
@@ -28,12 +29,14 @@ next_columns ex p = filter (column_follows (newest_column (reverse p))) (menu_of
 abbrev pub longer_prefixes : Exercise → List (List Cell) → List (List (List Cell))
 longer_prefixes ex p = map (λ col. p ++ col ∷ []) (next_columns ex p)
 
--- a strict break of a rule is settled in a prefix: one of its columns settles it, read in the prefix that ends there
+-- a strict break of a rule is settled in a prefix: one of its columns settles it, read in the
+-- prefix that ends there
 abbrev pub has_break_of : Exercise → List (List Cell) → ℕ → Bool
 has_break_of ex p rule =
     is_read rule && any_below (λ k. newly_broken ex (take k p) (slice_index_or p k []) rule) (length p)
 
--- a floor is above the penalty of the head's setting, or it is that penalty and the prefix is later in reading order
+-- a floor is above the penalty of the head's setting, or it is that penalty and the prefix is later
+-- in reading order
 abbrev pub IsNoBetter : CertHead → List (List Cell) → ℕ → Type 0
 IsNoBetter Nothing p floor = ⊥
 IsNoBetter (Best penalty score) p floor =

@@ -1,5 +1,5 @@
--- What the second form of a certificate states: a number for the start and for each column of the menus, in reading order; and when
--- that is true.
+-- What the second form of a certificate states: a number for the start and for each column of the
+-- menus, in reading order; and when that is true.
 use Rattle.std.specs.Prelude.{◌≡◌, ℕ, zero, suc, ◌+◌, ◌<◌, ◌≤◌, List, [], Option, Some, None, IfSome, IsSomeAnd, length, slice_index_or}
 use Rattle.cert_text.specs.declared.potential.Potential.{Potential}
 use Rattle.cert_text.specs.declared.potential.Potential.TheVariants.{Least, NoChain}
@@ -38,8 +38,8 @@ abbrev pub number_in : Potential → Option ℕ
 number_in (Least n) = Some n
 number_in NoChain = None
 
--- what a column of a place's menu costs behind another or behind none, together with the number that is stated for it; none where it
--- doesn't follow, may not be the neighbor, or has no number
+-- what a column of a place's menu costs behind another or behind none, together with the number
+-- that is stated for it; none where it doesn't follow, may not be the neighbor, or has no number
 abbrev pub sum_through : Exercise → Sheet → List Potential → ℕ → Option (List Cell) → ℕ → Option ℕ
 sum_through ex sheet entries i before k =
     sum_behind (chains_of ex sheet) i before (menu_column ex i k) (number_in (entry_of ex entries i k))
@@ -49,7 +49,8 @@ abbrev pub AllowsSum : Potential → Option ℕ → Type 0
 AllowsSum (Least n) sum = IfSome sum (λ s. n ≤ s)
 AllowsSum NoChain sum = sum ≡ None
 
--- an entry is true of a column before a place, or of the start, by the sums through each column of the place's menu
+-- an entry is true of a column before a place, or of the start, by the sums through each column of
+-- the place's menu
 abbrev pub IsTrueBefore : Exercise → Sheet → List Potential → ℕ → Option (List Cell) → Potential → Type 0
 IsTrueBefore ex sheet entries i before entry =
     (k : ℕ) → k < length (menu_of ex i) → AllowsSum entry (sum_through ex sheet entries i before k)
@@ -77,7 +78,8 @@ pub record IsFirstFalse (ex : Exercise) (sheet : Sheet) (entries : List Potentia
   pub untrue : IsTrueEntry ex sheet entries n → ⊥
   pub before : (m : ℕ) → m < n → IsTrueEntry ex sheet entries m
 
--- where there is a least sum over chains, the number is stated and at most that: so no chain goes on where `n` is stated
+-- where there is a least sum over chains, the number is stated and at most that: so no chain goes
+-- on where `n` is stated
 abbrev pub IsLow : Option ℕ → Option ℕ → Type 0
 IsLow stated rest = IfSome rest (λ r. IsSomeAnd stated (λ n. n ≤ r))
 

@@ -1,4 +1,5 @@
--- What is known of a prefix so that its claims can be judged, and how prefixes are found by the numbers of columns.
+-- What is known of a prefix so that its claims can be judged, and how prefixes are found by the
+-- numbers of columns.
 use Rattle.std.specs.Prelude.{◌≡◌, ℕ, ◌+◌, ◌<◌, ◌&&◌, Bool, nat_lt, IsTrue, List, [], ◌∷◌, ◌++◌, Option, Some, None, drop, length, map, reverse, slice_index_or}
 use Rattle.std.specs.List.{filter}
 use Rattle.cert_text.specs.declared.claim.Claim.{Claim}
@@ -85,7 +86,8 @@ pub record IsKnown (t : Tailed) (known : PrefixKnown) (p : List (List Cell)) : T
   pub judged : IsJudged t.case p known.judged
   pub tail : known.tail ≡ tail_of t.case.exercise t.case.sheet t.stated p
 
--- what is known of each prefix of which this is known, with the column of a number more that may come next
+-- what is known of each prefix of which this is known, with the column of a number more that may
+-- come next
 abbrev pub IsKnownAfter : Tailed → PrefixKnown → ℕ → PrefixKnown → Type 0
 IsKnownAfter t known k longer =
     (p : List (List Cell)) → IsKnown t known p → GoesOn t.case.exercise p (column_after t.case.exercise p k ∷ [])
@@ -95,6 +97,7 @@ IsKnownAfter t known k longer =
 abbrev pub IsStepOf : Tailed → ℕ → PrefixKnown → Type 0
 IsStepOf t k known = IsOfStep (tree_in t) (IsKnown t) (ways_of t.case.exercise) k known
 
--- this holds of each prefix of which this is known with the column of the number more, where that may come next
+-- this holds of each prefix of which this is known with the column of the number more, where that
+-- may come next
 abbrev pub IsBehindKnown : Tailed → PrefixKnown → ℕ → (List (List Cell) → Type 0) → Type 0
 IsBehindKnown t known k Holds = IsBehind (IsKnown t) (ways_of t.case.exercise) known k Holds

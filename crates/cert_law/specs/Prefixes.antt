@@ -20,7 +20,8 @@ abbrev pub order_with : CertHead → List (List Cell) → Ordering
 order_with Nothing p = Equal
 order_with (Best penalty score) p = columns_order score.columns p
 
--- the rules that are broken in a prefix, what is paid of it, and how the head's setting goes against it
+-- the rules that are broken in a prefix, what is paid of it, and how the head's setting goes
+-- against it
 pub record IsJudged (t : Matter) (p : List (List Cell)) (judged : Judged) : Type 0 where
   pub prefix : IsPrefix t.exercise p
   pub state : IsStateOf t.exercise p judged.state

@@ -1,4 +1,5 @@
--- Entries that state the least sums over chains themselves: those of the certificate that is written.
+-- Entries that state the least sums over chains themselves: those of the certificate that is
+-- written.
 use Rattle.std.specs.Prelude.{◌≡◌, ℕ, suc, ◌-◌, ◌<◌, ◌≤◌, List, [], ◌∷◌, Option, Some, None, length, map}
 use Rattle.std.specs.List.{flat_map, range_with_len}
 use Rattle.cert_text.specs.declared.answers.Form.{Form}

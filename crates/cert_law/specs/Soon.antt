@@ -17,8 +17,8 @@ abbrev pub has_length : CertHead → ℕ → Bool
 has_length Nothing count = false
 has_length (Best penalty score) count = count == length score.columns
 
--- of each prefix of which this is known and that goes on by the column: the two aren't the head's setting, and this is the least rule of
--- which a strict break is settled in them
+-- of each prefix of which this is known and that goes on by the column: the two aren't the head's
+-- setting, and this is the least rule of which a strict break is settled in them
 abbrev pub TellsLeast : Matter → Judged → List Cell → ℕ → Type 0
 TellsLeast t judged col rule =
     (p : List (List Cell)) → IsJudged t p judged → GoesOn t.exercise p (col ∷ [])

@@ -1,5 +1,6 @@
--- Tails: what the columns behind a prefix cost at least together. In the first form of a certificate that is the least sum over the
--- chains that go on; in the second it is the number that the certificate states.
+-- Tails: what the columns behind a prefix cost at least together. In the first form of a
+-- certificate that is the least sum over the chains that go on; in the second it is the number that
+-- the certificate states.
 use Rattle.std.specs.Prelude.{ℕ, ◌+◌, ◌-◌, List, Option, Some, None, length, option_map}
 use Rattle.std.specs.List.{position_or_len}
 use Rattle.std.specs.Ordering.{is_eq}
@@ -27,7 +28,8 @@ entry_behind ex entries size (Some col) = entry_of ex entries (size - 1) (number
 abbrev pub entry_for : Exercise → List Potential → List (List Cell) → Potential
 entry_for ex entries p = entry_behind ex entries (length p) (last_column p)
 
--- the tail of a prefix, where entries are stated or none are; none where no chain goes on, and where `n` is stated
+-- the tail of a prefix, where entries are stated or none are; none where no chain goes on, and
+-- where `n` is stated
 abbrev pub tail_of : Exercise → Sheet → Option (List Potential) → List (List Cell) → Option ℕ
 tail_of ex sheet None p = rest_of ex sheet p
 tail_of ex sheet (Some entries) p = number_in (entry_for ex entries p)

@@ -12,7 +12,8 @@ use Rattle.cert_law.specs.Tails.{tail_of}
 use Rattle.fux_grid.specs.declared.cell.Cell.{Cell}
 use Rattle.fux_grid.specs.declared.exercise.Exercise.{Exercise}
 
--- whether the floor of each prefix of which this is known, with this tail, is no better than the head's setting
+-- whether the floor of each prefix of which this is known, with this tail, is no better than the
+-- head's setting
 abbrev pub TellsNoBetter : Matter → Judged → ℕ → Bool → Type 0
 TellsNoBetter t judged tail result =
     (p : List (List Cell)) → IsJudged t p judged → result ≡ is_no_better t.head p (judged.paid + judged.least + tail)
@@ -30,7 +31,8 @@ TellsTruth t judged tail claim result =
     → tail ≡ tail_of t.exercise t.sheet stated p
     → IsTrue result ↔ IsTrueOf t.exercise t.sheet t.head stated p claim
 
--- whether a claim is the first one that is true of each prefix of which this is known, and that has this tail
+-- whether a claim is the first one that is true of each prefix of which this is known, and that has
+-- this tail
 abbrev pub IsFirstClaim : Matter → Judged → Option ℕ → Claim → Type 0
 IsFirstClaim t judged tail claim =
     (stated : Option (List Potential)) (p : List (List Cell)) → IsJudged t p judged

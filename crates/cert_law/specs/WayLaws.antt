@@ -1,5 +1,5 @@
--- What a case with tails promises as a tree of claims: prefixes are found by the numbers of columns (`are_ways`), and true claims exclude
--- what refutes its head (`excluded`).
+-- What a case with tails promises as a tree of claims: prefixes are found by the numbers of columns
+-- (`are_ways`), and true claims exclude what refutes its head (`excluded`).
 use Rattle.std.specs.Prelude.{◌≡◌, ◌+◌, ◌<◌, true, List, [], ◌∷◌, ◌++◌, length, map, refl}
 use Rattle.std.specs.List.{AllByRecursion}
 use Rattle.std.proofs.Common.{arith}

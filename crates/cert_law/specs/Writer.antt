@@ -37,7 +37,8 @@ is_equal Less = false
 is_equal Equal = true
 is_equal Greater = false
 
--- how two lists go by the first column at which they differ; they are equal there where they differ at none that both have
+-- how two lists go by the first column at which they differ; they are equal there where they differ
+-- at none that both have
 abbrev pub columns_order : List (List Cell) → List (List Cell) → Ordering
 columns_order [] t = Equal
 columns_order (c ∷ s) [] = Equal
@@ -58,8 +59,9 @@ is_no_better (Best penalty score) p floor =
 abbrev pub least_break : Exercise → List (List Cell) → Option ℕ
 least_break ex p = find (has_break_of ex p) rules_read
 
--- the first claim that is true of a prefix, where entries are stated or none are: it is the head's setting, a rule is broken, no chain
--- goes on, the floor is no better than the head's setting; else it is open
+-- the first claim that is true of a prefix, where entries are stated or none are: it is the head's
+-- setting, a rule is broken, no chain goes on, the floor is no better than the head's setting; else
+-- it is open
 abbrev pub unbroken_claim : Exercise → Sheet → CertHead → Option (List Potential) → List (List Cell) → Claim
 unbroken_claim ex sheet head stated p =
     if is_none (tail_of ex sheet stated p) then NoChain
@@ -79,12 +81,14 @@ abbrev pub head_text : Exercise → Form → CertHead → List ℕ
 head_text ex form Nothing = nothing_text form
 head_text ex form (Best penalty score) = best_text form penalty (sing_lines ex score.columns)
 
--- what stands between a head and its claims: where entries are stated, the line of each of them and the line `claims`
+-- what stands between a head and its claims: where entries are stated, the line of each of them and
+-- the line `claims`
 abbrev pub stated_text : Option (List Potential) → List ℕ
 stated_text None = []
 stated_text (Some entries) = flat_map potential_line entries ++ last_line
 
--- the text of a certificate: its head's, that of its entries, where some are stated, and the line of each claim
+-- the text of a certificate: its head's, that of its entries, where some are stated, and the line
+-- of each claim
 abbrev pub certificate_text : Exercise → Form → CertHead → Option (List Potential) → List Claim → List ℕ
 certificate_text ex form head stated claims = head_text ex form head ++ (stated_text stated ++ flat_map claim_line claims)
 

@@ -14,8 +14,9 @@ use penalty_sheet::Sheet;
 use rule_law::RuleSet;
 use std::cmp::Ordering;
 
-/// What is known of a prefix: what the judge keeps of it, the rules of which a strict break is settled in it, what is paid of it, what
-/// its lines cost at least, and how the head's setting goes against it by the first column at which they differ.
+/// What is known of a prefix: what the judge keeps of it, the rules of which a strict break is
+/// settled in it, what is paid of it, what its lines cost at least, and how the head's setting goes
+/// against it by the first column at which they differ.
 #[derive(Clone, Copy)]
 pub struct Judged {
     pub state: State,

@@ -15,8 +15,9 @@ use cert_text::CertHead;
 use fux_grid::Exercise;
 use penalty_sheet::Sheet;
 
-/// What the head of a valid certificate of either form says holds: its setting is the best one and has its penalty, or no setting is lawful.
-/// It does nothing; callers that prove something about a certificate learn this from it.
+/// What the head of a valid certificate of either form says holds: its setting is the best one and
+/// has its penalty, or no setting is lawful. It does nothing; callers that prove something about a
+/// certificate learn this from it.
 pub fn shown_by(ex: &Exercise, sheet: &Sheet, head: &CertHead)
     requires valid { IsValid ex.now }
     ensures { (stated : Option (List Potential)) (claims : List Claim)
@@ -27,15 +28,16 @@ pub fn shown_by(ex: &Exercise, sheet: &Sheet, head: &CertHead)
     let _ = head;
 }
 
-/// What the writer's certificate is: of a head that holds, it is valid, in both forms; in the second its entries state the least sums
-/// over chains, each below 2^32. It does nothing, as `shown_by`.
+/// What the writer's certificate is: of a head that holds, it is valid, in both forms; in the
+/// second its entries state the least sums over chains, each below 2^32. It does nothing, as
+/// `shown_by`.
 pub fn written(ex: &Exercise, sheet: &Sheet, head: &CertHead)
     requires valid { IsValid ex.now }
     ensures rests { (stated : Option (List Potential)) → IfSome stated (AreRests ex.now sheet.now)
         → Holds ex.now sheet.now head.now
         → IsCertificate ex.now sheet.now head.now stated (claims_of ex.now sheet.now head.now) }
-    ensures forms { (form : Form) → Holds ex.now sheet.now head.now
-        → IsCertificate ex.now sheet.now head.now (stated_in form ex.now sheet.now) (claims_of ex.now sheet.now head.now) }
+    ensures forms { (form : Form) → Holds ex.now sheet.now head.now → IsCertificate ex.now sheet.now
+        head.now (stated_in form ex.now sheet.now) (claims_of ex.now sheet.now head.now) }
     ensures small { AllByRecursion IsPotential (entries_of ex.now sheet.now) }
 {
     let _ = ex.voices;

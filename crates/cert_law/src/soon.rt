@@ -22,7 +22,8 @@ fn has_length(case: &Case<'_>, count: usize) -> bool
     }
 }
 
-/// The least rule that is broken in a prefix with a column more, where it is soon told and that isn't as long as the head's setting.
+/// The least rule that is broken in a prefix with a column more, where it is soon told and that
+/// isn't as long as the head's setting.
 pub(crate) fn told_break(case: &Case<'_>, judged: &Judged, column: &Column) -> Option<u8>
     requires case { IsCase (matter_of case.now) }
     requires room { judged.now.state.newest.len < columns_in case.now.exercise.now }
@@ -42,7 +43,8 @@ pub(crate) fn told_break(case: &Case<'_>, judged: &Judged, column: &Column) -> O
     None
 }
 
-/// Whether a claim is soon told to be true of a prefix with a column more: it is of a rule that the column breaks.
+/// Whether a claim is soon told to be true of a prefix with a column more: it is of a rule that the
+/// column breaks.
 pub(crate) fn is_break_told(case: &Case<'_>, judged: &Judged, column: &Column, claim: Claim) -> bool
     requires case { IsCase (matter_of case.now) }
     requires room { judged.now.state.newest.len < columns_in case.now.exercise.now }

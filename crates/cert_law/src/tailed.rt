@@ -76,7 +76,8 @@ fn known_after<T: Tails>(
     requires room { known.now.judged.state.newest.len < columns_in (T.basis tails.now).exercise }
     requires within { number < length (menu_of (T.basis tails.now).exercise known.now.judged.state.newest.len) }
     requires small { known.now.judged.paid ≤ known.now.judged.state.newest.len * 134217728 }
-    ensures { IsKnownAfter (tailed_of (matter_of case.now) (T.basis tails.now)) known.now number result }
+    ensures { IsKnownAfter (tailed_of (matter_of case.now) (T.basis tails.now)) known.now number
+        result }
 {
     let i = known.judged.state.newest.len;
     PrefixKnown {
@@ -104,8 +105,8 @@ fn next_step<T: Tails>(
     next_number(tails, i, before, from)
 }
 
-/// Whether a claim is true of an open prefix with the column of a number more. Where the claim is of a rule of which a strict break is soon
-/// told, no more is judged.
+/// Whether a claim is true of an open prefix with the column of a number more. Where the claim is
+/// of a rule of which a strict break is soon told, no more is judged.
 fn is_true_with<T: Tails>(
     case: &Case<'_>,
     tails: &T,
@@ -117,7 +118,8 @@ fn is_true_with<T: Tails>(
     requires tails { HasTails (matter_of case.now) (T.basis tails.now) }
     requires step { IsStepOf (tailed_of (matter_of case.now) (T.basis tails.now)) number known.now }
     ensures { IsBehindKnown (tailed_of (matter_of case.now) (T.basis tails.now)) known.now number
-        (λ q. IsTrue result ↔ (tree_in (tailed_of (matter_of case.now) (T.basis tails.now))).IsTrueOf q claim) }
+        (λ q. IsTrue result
+        ↔ (tree_in (tailed_of (matter_of case.now) (T.basis tails.now))).IsTrueOf q claim) }
 {
     let column = tails.column(known.judged.state.newest.len, number);
     if is_break_told(case, &known.judged, column, claim) {
@@ -127,8 +129,8 @@ fn is_true_with<T: Tails>(
     is_true(case, &next.judged, next.tail, claim)
 }
 
-/// The first claim that is true of an open prefix with the column of a number more. Where it is of a rule that is soon told, no more is
-/// judged.
+/// The first claim that is true of an open prefix with the column of a number more. Where it is of
+/// a rule that is soon told, no more is judged.
 fn claim_with<T: Tails>(case: &Case<'_>, tails: &T, known: &PrefixKnown, number: usize) -> Claim
     requires case { IsCase (matter_of case.now) }
     requires tails { HasTails (matter_of case.now) (T.basis tails.now) }

@@ -8,7 +8,8 @@ ghost use Rattle.fux_grid.specs.Menus.{menu_of};
 use floor_tables::Tables;
 use fux_grid::Column;
 
-/// The columns of an exercise's menus, and the tail of each prefix that ends with one of them: by tables, or as entries state it.
+/// The columns of an exercise's menus, and the tail of each prefix that ends with one of them: by
+/// tables, or as entries state it.
 pub trait Tails {
     ghost basis: { Self → Basis };
 

@@ -1,4 +1,5 @@
--- Each letter has a pitch in the fourth octave, alone and with a sign (`natural-four`, `sharp-four`, `flat-four`).
+-- Each letter has a pitch in the fourth octave, alone and with a sign (`natural-four`,
+-- `sharp-four`, `flat-four`).
 use Rattle.std.proofs.Common.{◌≡◌, ℕ, zero, suc, ◌+◌, ◌-◌, ◌<◌, ◌≤◌, ℤ, pos, negsuc, true, List, [], ◌∷◌, refl, subst, arith}
 use Rattle.fux_pitch.specs.declared.pitch.Pitch.{Pitch}
 use Rattle.fux_pitch.specs.Key.{IsPitch-from_test, has_pitch}

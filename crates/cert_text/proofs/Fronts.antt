@@ -1,5 +1,6 @@
--- What is read stands at the front (`reads-stand`), where reading stops no text goes on (`goes-to`), and one text at most stands at the
--- front (`stands-one`), for each set of texts none of which begins another one.
+-- What is read stands at the front (`reads-stand`), where reading stops no text goes on
+-- (`goes-to`), and one text at most stands at the front (`stands-one`), for each set of texts none
+-- of which begins another one.
 use Rattle.std.proofs.Common.{◌≡◌, ◌⊎◌, inl, inr, ⊎_elim, ℕ, ◌+◌, ◌-◌, ◌<◌, ◌≤◌, List, [], ◌∷◌, ◌++◌, length, take, drop, refl, sym, ap, subst, ◌∙◌, append_assoc, append-nil, length-append, arith}
 use Rattle.std.proofs.lemmas.Bool.{cases_lt}
 use Rattle.std.proofs.lemmas.List.{length-take, length-take-le, take-append-drop, take-take}

@@ -1,5 +1,6 @@
--- One head of either form at most stands at the front of bytes (`heads_are_one`), whatever stands behind it (`heads_before`), and its
--- text is short (`heads_are_brief`), so that a long front of bytes tells where none goes on (`stops_whole`).
+-- One head of either form at most stands at the front of bytes (`heads_are_one`), whatever stands
+-- behind it (`heads_before`), and its text is short (`heads_are_brief`), so that a long front of
+-- bytes tells where none goes on (`stops_whole`).
 use Rattle.std.proofs.Common.{◌≡◌, ℕ, ◌+◌, ◌≤◌, ◌<◌, ◌^◌, List, ◌∷◌, ◌++◌, length, length-append, take, Option, Some, None, Result, Ok, refl, sym, ap, subst, ◌∙◌, arith}
 use Rattle.std.specs.Prelude.{codes}
 use Rattle.std.specs.Fmt.{decimal}

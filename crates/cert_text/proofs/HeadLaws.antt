@@ -1,6 +1,6 @@
--- A head with a penalty stands at the front of bytes just where its text as it is written stands there
--- (`best-heads_written`). Each text of a head is that of a head (`texts-of_heads`), and where each text is answered, a head
--- that stands at the front is the answer (`answers-one`).
+-- A head with a penalty stands at the front of bytes just where its text as it is written stands
+-- there (`best-heads_written`). Each text of a head is that of a head (`texts-of_heads`), and where
+-- each text is answered, a head that stands at the front is the answer (`answers-one`).
 use Rattle.std.proofs.Common.{◌≡◌, ℕ, ◌≤◌, ◌<◌, ◌^◌, List, length, take, Some, None, Result, Ok, Err, refl, sym, ap, subst, ◌∙◌}
 use Rattle.std.specs.Prelude.{IfOk}
 use Rattle.fux_grid.specs.declared.exercise.Exercise.{Exercise}

@@ -1,5 +1,6 @@
--- The row of a head has the texts of heads (`row-says`, `row-of_text`). So where reading the row stops bytes stop being a
--- head (`head-stops`), what is read stands at the front (`head-reads`), and one head at most does (`same-head`).
+-- The row of a head has the texts of heads (`row-says`, `row-of_text`). So where reading the row
+-- stops bytes stop being a head (`head-stops`), what is read stands at the front (`head-reads`),
+-- and one head at most does (`same-head`).
 use Rattle.std.proofs.Common.{◌≡◌, inl, inr, append_assoc, ℕ, ◌+◌, ◌-◌, ◌<◌, ◌≤◌, ◌^◌, Bool, true, false, List, [], ◌∷◌, ◌++◌, Option, Some, None, length, take, refl, sym, ap, subst, ◌∙◌, arith}
 use Rattle.std.specs.Prelude.{◌==◌, codes}
 use Rattle.std.specs.Fmt.{decimal}

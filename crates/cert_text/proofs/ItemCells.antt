@@ -1,5 +1,5 @@
--- Items that fit have cells that follow one another (`fits-follow`), as many as a line has (`fits-long`), and no other
--- items that fit have the same cells (`fits-same`).
+-- Items that fit have cells that follow one another (`fits-follow`), as many as a line has
+-- (`fits-long`), and no other items that fit have the same cells (`fits-same`).
 use Rattle.std.proofs.Common.{◌≡◌, ℕ, zero, suc, ◌+◌, ◌-◌, ◌*◌, ◌%◌, ◌<◌, ◌≤◌, Bool, true, false, List, [], ◌∷◌, ◌++◌, length, length-append, replicate, refl, sym, ap, subst, ◌∙◌, ⊎_elim, arith}
 use Rattle.std.specs.Prelude.{◌==◌, ◌||◌, IsTrue}
 use Rattle.std.proofs.lemmas.Bool.{and_parts, cases_lt}

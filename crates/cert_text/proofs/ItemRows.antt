@@ -1,5 +1,6 @@
--- No line of items begins another one (`lines-alone`), and items go on from each place within a line (`items-live`); so a line
--- stops where one of the pieces of its next item stops (`name-stops` to `rest-stops`), and else it is read (`item-reads`).
+-- No line of items begins another one (`lines-alone`), and items go on from each place within a
+-- line (`items-live`); so a line stops where one of the pieces of its next item stops (`name-stops`
+-- to `rest-stops`), and else it is read (`item-reads`).
 use Rattle.std.proofs.Common.{◌≡◌, ◌≢◌, ℕ, zero, suc, ◌+◌, ◌-◌, ◌*◌, ◌%◌, ◌≤◌, ◌<◌, Bool, true, false, List, [], ◌∷◌, refl, sym, ap, subst, ◌∙◌, arith}
 use Rattle.std.specs.Prelude.{◌==◌, codes, nat_le}
 use Rattle.std.proofs.lemmas.Bool.{and_from, and_parts, eq-eqb, ne_eqb}

@@ -1,5 +1,5 @@
--- The items of a line and their text: a line of them is short (`item_lines-short`), and the lines of a row are those of items
--- (`lines-from`, `lines-to`).
+-- The items of a line and their text: a line of them is short (`item_lines-short`), and the lines
+-- of a row are those of items (`lines-from`, `lines-to`).
 use Rattle.std.proofs.Common.{◌≡◌, ℕ, zero, suc, ◌+◌, ◌-◌, ◌*◌, ◌/◌, ◌%◌, ◌≤◌, ◌<◌, Bool, true, false, List, [], ◌∷◌, ◌++◌, length, length-append, refl, sym, ap, subst, ◌∙◌, append_assoc, arith}
 use Rattle.std.specs.Prelude.{◌==◌, IsTrue, not, codes, if◌then◌else◌}
 use Rattle.std.specs.List.{flat_map, range_with_len}
@@ -19,7 +19,8 @@ use Rattle.fux_text.specs.Sing.{held}
 use Rattle.fux_text.proofs.OwnSetting.{free-cantus, free-other, free_of}
 use Rattle.cert_text.specs.HeadRows.{BehindItem, Items, RestOfLine, SingLines, behind_text, can_stand, sing_bytes}
 
--- items behind so many columns and a cell are the rest of a line of so many bars, and none goes beyond its bar
+-- items behind so many columns and a cell are the rest of a line of so many bars, and none goes
+-- beyond its bar
 abbrev pub Fits : ℕ → ℕ → Cell → List (Cell × ℕ) → Type 0
 Fits bars i before [] = i ≡ 8 * bars
 Fits bars i before (item ∷ items) =
@@ -278,7 +279,8 @@ item-short : (item : Cell × ℕ) → length (item_text item) ≤ 5
 item-short item =
     omega (arith, length-append (item_name item.0) (58 ∷ (48 + item.1) ∷ []), name-short item.0)
 
--- an item has at most five bytes, with a space or a feed behind it, or a bar line at the end of its bar
+-- an item has at most five bytes, with a space or a feed behind it, or a bar line at the end of its
+-- bar
 items-short : (bars i : ℕ) (before : Cell) (items : List (Cell × ℕ)) → Fits bars i before items
     → length (items_text bars i items) + 6 * i + 2 * (i / 8) ≤ 50 * bars
 items-short bars i before [] fits = omega (arith, fits)

@@ -1,5 +1,5 @@
--- Where bytes stop being the name of a pitch (`pitches-stop`) or of an item (`names-stop`). No name begins another one
--- (`names-alone`).
+-- Where bytes stop being the name of a pitch (`pitches-stop`) or of an item (`names-stop`). No name
+-- begins another one (`names-alone`).
 use Rattle.std.proofs.Common.{◌≡◌, ◌⊎◌, inl, inr, ℕ, zero, suc, ◌+◌, ◌/◌, ◌%◌, ◌<◌, ◌≤◌, ℤ, pos, negsuc, ◌≤ℤ◌, Bool, true, false, List, [], ◌∷◌, ◌++◌, Some, length, take, refl, sym, ap, ◌∙◌, arith}
 use Rattle.std.specs.Prelude.{◌==◌, ◌||◌, IsTrue, nat_le}
 use Rattle.std.proofs.lemmas.Bool.{and_parts, eqb-true, false≢true}
@@ -105,7 +105,8 @@ short_name p text e few = by (spelled p)
     by (Spelled.natural l d low high least most x) = omega (arith, ap length (e ∙ x), few)
     by (Spelled.signed l s d low high sign x) = omega (arith, ap length (e ∙ x), few)
 
--- where no name stands at the front, they are a name's front as far as they are a letter, or a letter and a sign
+-- where no name stands at the front, they are a name's front as far as they are a letter, or a
+-- letter and a sign
 module _ (bytes : List ℕ)
     (two : (p : Pitch) → 2 ≤ length bytes → take 2 bytes ≡ name_of p → ⊥)
     (three : (p : Pitch) → 3 ≤ length bytes → take 3 bytes ≡ name_of p → ⊥) where

@@ -1,5 +1,6 @@
--- Digits are those of a number as long as one more can stand behind them (`digits-more`), and reading stops where it can't
--- (`digits-stop`). No number's line begins another one (`numbers-alone`).
+-- Digits are those of a number as long as one more can stand behind them (`digits-more`), and
+-- reading stops where it can't (`digits-stop`). No number's line begins another one
+-- (`numbers-alone`).
 use Rattle.std.proofs.Common.{◌≡◌, ◌≢◌, ◌⊎◌, inl, inr, ℕ, ◌+◌, ◌-◌, ◌*◌, ◌/◌, ◌%◌, ◌<◌, ◌≤◌, ◌^◌, Bool, true, false, List, [], ◌∷◌, ◌++◌, Option, Some, None, length, length-append, length-drop, take, drop, get_or, refl, sym, ap, subst, ◌∙◌, append_assoc, append-nil, arith}
 use Rattle.std.specs.Prelude.{◌==◌, ◌&&◌, not, nat_le, nat_lt, if◌then◌else◌}
 use Rattle.std.specs.Option.{option_and_then}

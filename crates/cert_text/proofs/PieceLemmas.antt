@@ -1,6 +1,6 @@
--- A text of two pieces is read piece by piece: it is read where both are (`reads-then`), and reading stops where it stops at
--- the first one (`stops-first`) or at the second (`stops-behind`). No text of a set begins another one where none of its
--- pieces does (`then-alone`).
+-- A text of two pieces is read piece by piece: it is read where both are (`reads-then`), and
+-- reading stops where it stops at the first one (`stops-first`) or at the second (`stops-behind`).
+-- No text of a set begins another one where none of its pieces does (`then-alone`).
 use Rattle.std.proofs.Common.{◌≡◌, ◌≢◌, ◌⊎◌, inl, inr, ℕ, ◌+◌, ◌-◌, ◌≤◌, ◌<◌, List, [], ◌∷◌, ◌++◌, length, length-append, length-drop, take, drop, get_or, refl, sym, ap, subst, ◌∙◌, append_assoc, append-nil, arith}
 use Rattle.std.specs.Prelude.{IfErr, IfOk, Result, Ok, Err}
 use Rattle.std.proofs.lemmas.List.{append_cancel_left, drop_more, length-take-le, take-append-drop}

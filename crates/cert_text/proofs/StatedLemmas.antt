@@ -1,5 +1,6 @@
--- Which bytes begin a line that is owed behind `p ` (`digit_begun`, `number_ends`), and how a number with one more digit is written
--- (`longer_number`). The line has no line feed before its end (`stated_has_no_feed`), and begins one that is owed (`stated_begins`).
+-- Which bytes begin a line that is owed behind `p ` (`digit_begun`, `number_ends`), and how a
+-- number with one more digit is written (`longer_number`). The line has no line feed before its end
+-- (`stated_has_no_feed`), and begins one that is owed (`stated_begins`).
 use Rattle.std.proofs.Common.{◌≡◌, ◌≢◌, ℕ, zero, suc, ◌+◌, ◌*◌, ◌/◌, ◌%◌, ◌^◌, ◌<◌, ◌≤◌, ◌⊎◌, inl, inr, ⊎_elim, true, List, [], ◌∷◌, ◌++◌, length, take, drop, get_or, refl, sym, ap, ◌∙◌, subst, arith, append_assoc, length-append}
 use Rattle.std.specs.Fmt.{decimal}
 use Rattle.std.proofs.lemmas.Bool.{cases_lt}

@@ -1,4 +1,5 @@
--- What a byte at which reading stops makes of a line that states a potential, or of the line `claims` (`stated_stops`).
+-- What a byte at which reading stops makes of a line that states a potential, or of the line
+-- `claims` (`stated_stops`).
 use Rattle.std.proofs.Common.{◌≡◌, ℕ, ◌+◌, ◌<◌, Bool, true, false, List, [], ◌∷◌, ◌++◌, ◌==◌, length, take, drop, get_or, refl, sym, ap, ◌∙◌, subst, append_assoc, arith}
 use Rattle.std.specs.Prelude.{if◌then◌else◌}
 use Rattle.std.proofs.lemmas.List.{drop_more, take_more}

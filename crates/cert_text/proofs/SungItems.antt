@@ -1,5 +1,5 @@
--- The items of a voice's cells, bar by bar, fit (`voice-fits`), and the text of its line is that of these items
--- (`voice-text`).
+-- The items of a voice's cells, bar by bar, fit (`voice-fits`), and the text of its line is that of
+-- these items (`voice-text`).
 use Rattle.std.proofs.Common.{◌≡◌, ℕ, zero, suc, ◌+◌, ◌-◌, ◌*◌, ◌/◌, ◌%◌, ◌<◌, ◌≤◌, Bool, true, false, List, [], ◌∷◌, ◌++◌, length, length-drop, map, replicate, take, drop, refl, sym, ap, subst, ◌∙◌, append_assoc, append-nil, arith}
 use Rattle.std.specs.Prelude.{◌==◌, ◌||◌, IsTrue, ⊤, codes}
 use Rattle.std.specs.Fmt.{decimal}

@@ -1,5 +1,5 @@
--- Lines of items are those that are written of a setting (`items-are_written`), and no others are (`written-are_items`), and
--- they are read as that setting (`written-lines_read`).
+-- Lines of items are those that are written of a setting (`items-are_written`), and no others are
+-- (`written-are_items`), and they are read as that setting (`written-lines_read`).
 use Rattle.std.proofs.Common.{◌≡◌, ℕ, zero, suc, ◌+◌, ◌*◌, ◌<◌, ◌≤◌, Bool, true, false, List, [], ◌∷◌, ◌++◌, get_or, length, map, refl, sym, ap, subst, ◌∙◌, arith}
 use Rattle.std.specs.Prelude.{◌==◌, if◌then◌else◌}
 use Rattle.std.specs.List.{AllByRecursion, flat_map, range_with_len}

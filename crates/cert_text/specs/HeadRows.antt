@@ -1,4 +1,5 @@
--- The text of a head as a row of pieces: its lines, the number of its penalty, and the items of its `sing` lines.
+-- The text of a head as a row of pieces: its lines, the number of its penalty, and the items of its
+-- `sing` lines.
 use Rattle.std.specs.Prelude.{◌≡◌, ◌⊎◌, ℕ, zero, suc, ◌+◌, ◌-◌, ◌*◌, ◌%◌, ◌<◌, ◌≤◌, ◌^◌, ◌==◌, ◌&&◌, ◌||◌, not, IsTrue, ⊤, Bool, true, false, List, [], ◌∷◌, ◌++◌, Option, Some, None, codes, nat_le, nat_lt, if◌then◌else◌}
 use Rattle.std.specs.Fmt.{decimal}
 use Rattle.std.specs.List.{range_with_len}
@@ -28,7 +29,8 @@ abbrev pub AreDigits : Option ℕ → List ℕ → Type 0
 AreDigits None ds = ds ≡ []
 AreDigits (Some n) ds = (n < 2 ^ 64) × (ds ≡ decimal n)
 
--- the number whose digits are those of another one, if there is one, and one more digit; it is below 2^64
+-- the number whose digits are those of another one, if there is one, and one more digit; it is
+-- below 2^64
 abbrev pub digit_after : Option ℕ → ℕ → Option ℕ
 digit_after None byte = if is_digit byte then Some (byte - 48) else None
 digit_after (Some n) byte =
@@ -54,8 +56,8 @@ sounds Rest = false
 sounds (Hold p) = true
 sounds (Start p) = true
 
--- an item that begins with this cell can stand behind so many columns and a cell: a rest doesn't follow another one in its
--- bar, and a hold begins its bar
+-- an item that begins with this cell can stand behind so many columns and a cell: a rest doesn't
+-- follow another one in its bar, and a hold begins its bar
 abbrev pub can_stand : ℕ → Cell → Cell → Bool
 can_stand i before Rest = (i % 8 == 0) || sounds before
 can_stand i before (Hold p) = (i % 8 == 0) && cell_follows before (Hold p)

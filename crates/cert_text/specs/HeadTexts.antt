@@ -19,7 +19,8 @@ pub record BeginsText (ex : Exercise) (last : Form) (front : List ℕ) : Type 0 
   pub rest : List ℕ
   pub whole : IsHeadText ex form (front ++ rest) penalty
 
--- no such head stands at the front of the bytes, and so many of them are the longest front by which one goes on
+-- no such head stands at the front of the bytes, and so many of them are the longest front by which
+-- one goes on
 pub record TextStops (ex : Exercise) (last : Form) (bytes : List ℕ) (at : ℕ) : Type 0 where
   pub within : at ≤ length bytes
   pub begins : BeginsText ex last (take at bytes)
@@ -53,7 +54,8 @@ IsHeadFault ex last bytes fault =
 abbrev pub UnlessMemory : {A : Type 0} → Result A CertFault → (A → Type 0) → Type 0
 UnlessMemory result Holds = MatchResult result Holds (λ fault. fault ≡ faults.Memory)
 
--- a text of such a head at the front of the bytes is answered by its form, its penalty and its length, unless memory runs out
+-- a text of such a head at the front of the bytes is answered by its form, its penalty and its
+-- length, unless memory runs out
 abbrev pub AnswersTexts : Exercise → Form → List ℕ → Result (Form × CertHead × ℕ) CertFault → Type 0
 AnswersTexts ex last bytes result =
     (form : Form) → IsUpTo last form → (n : ℕ) (penalty : Option ℕ) → n ≤ length bytes

@@ -3,8 +3,9 @@ use Rattle.std.specs.Prelude.{◌≡◌, ℕ, ◌+◌, ◌-◌, ◌^◌, ◌≤�
 use Rattle.cert_text.specs.declared.stated_line.StatedLine.{StatedLine}
 use Rattle.cert_text.specs.StatedLines.{IsStatedLine, is_of_potential, stated_bytes}
 
--- the place of the next byte, the number of bytes that were used, the bytes of the line that was begun, how many potentials there are to
--- be and how many were given, whether the line `claims` was taken, and the place of the line that was refused
+-- the place of the next byte, the number of bytes that were used, the bytes of the line that was
+-- begun, how many potentials there are to be and how many were given, whether the line `claims` was
+-- taken, and the place of the line that was refused
 pub record PotentialReading : Type 0 where
   pub next : ℕ
   pub used : ℕ
@@ -22,7 +23,8 @@ potential_line_start reading = reading.next - length reading.begun
 abbrev pub owes_potential : PotentialReading → Bool
 owes_potential reading = nat_lt reading.given reading.count
 
--- a reader after so many bytes more, where so many potentials were given, and these are the bytes of the line that was begun
+-- a reader after so many bytes more, where so many potentials were given, and these are the bytes
+-- of the line that was begun
 abbrev pub potentials_on : PotentialReading → ℕ → List ℕ → ℕ → PotentialReading
 potentials_on old used begun given =
     record old { next = old.next + used; used = old.used + used; begun = begun; given = given }

@@ -1,5 +1,5 @@
--- What a reader of potentials makes of a piece. The bytes of the line are those that were begun, and those of the piece through its
--- first line feed.
+-- What a reader of potentials makes of a piece. The bytes of the line are those that were begun,
+-- and those of the piece through its first line feed.
 use Rattle.std.specs.Prelude.{◌≡◌, ℕ, ◌+◌, ◌≤◌, Bool, true, false, List, [], ◌++◌, Option, Some, None, length, take}
 use Rattle.cert_text.specs.declared.answers.CertFault.{CertFault}
 use Rattle.cert_text.specs.declared.answers.CertFault.TheVariants.{CertWord}

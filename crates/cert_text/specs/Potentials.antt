@@ -1,4 +1,5 @@
--- What the second form states: a number for the start and for each column of the menus, one on each line.
+-- What the second form states: a number for the start and for each column of the menus, one on each
+-- line.
 use Rattle.std.specs.Prelude.{◌≡◌, ℕ, ◌<◌, ◌^◌, Bool, true, false, ⊤, List, [], ◌∷◌, ◌++◌, codes, length}
 use Rattle.std.specs.Fmt.{decimal}
 use Rattle.std.specs.List.{AllByRecursion, flat_map}

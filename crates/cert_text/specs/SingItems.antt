@@ -11,7 +11,8 @@ use Rattle.cert_text.specs.HeadRows.{closing_text, opening_text}
 abbrev pub nothing_text : Form → List ℕ
 nothing_text form = opening_text form ++ (codes "none" ++ 10 ∷ closing_text form)
 
--- the lines are those that are written of this setting of the exercise in a note text, one for each free voice
+-- the lines are those that are written of this setting of the exercise in a note text, one for each
+-- free voice
 pub record AreWrittenOf (ex : Exercise) (score : Grid) (lines : List ℕ) : Type 0 where
   pub setting : IsSettingOf ex score
   pub written : lines ≡ sing_lines ex score.columns

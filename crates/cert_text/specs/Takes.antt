@@ -8,7 +8,8 @@ use Rattle.cert_text.specs.declared.claims.Taken.{Taken}
 use Rattle.cert_text.specs.Lines.{BeginsClaim, HasNoFeed, IsClaim, line_if, line_part}
 use Rattle.cert_text.specs.Reading.{Reading, line_start}
 
--- the bytes of the line begin a claim's line: they are a claim's line, or have no line feed, and the line goes on
+-- the bytes of the line begin a claim's line: they are a claim's line, or have no line feed, and
+-- the line goes on
 pub record Takes (old : Reading) (piece : List ℕ) (taken : Taken) (new : Reading) : Type 0 where
   pub begins : BeginsClaim (old.begun ++ line_part piece)
   pub front : line_part piece ≡ take taken.used piece

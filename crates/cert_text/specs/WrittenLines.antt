@@ -1,4 +1,5 @@
--- A text of a head is that of one head, and its lines are read as the setting that they are written of.
+-- A text of a head is that of one head, and its lines are read as the setting that they are written
+-- of.
 use Rattle.std.specs.Prelude.{◌≡◌, ◌↔◌, ℕ, ◌≤◌, ◌<◌, ◌^◌, List, Option, length, take}
 use Rattle.fux_grid.specs.declared.exercise.Exercise.{Exercise}
 use Rattle.fux_grid.specs.Exercises.{IsValid}
@@ -27,7 +28,8 @@ abbrev pub BestTextsAreWritten : Type 0
 BestTextsAreWritten = (ex : Exercise) (form : Form) (text : List ℕ) (penalty : ℕ) → IsValid ex
     → IsBestText ex form text penalty ↔ ((penalty < 2 ^ 64) × (score : Grid) × IsBestOf ex form penalty score text)
 
--- and a head with a penalty stands at the front of bytes just where its text as it is written stands there
+-- and a head with a penalty stands at the front of bytes just where its text as it is written
+-- stands there
 abbrev pub BestHeadsAreWritten : Type 0
 BestHeadsAreWritten = (ex : Exercise) (form : Form) (bytes : List ℕ) (penalty : ℕ) (score : Grid) (n : ℕ) → IsValid ex
     → Heads ex form bytes (Best penalty score) n

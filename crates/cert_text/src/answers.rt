@@ -44,7 +44,8 @@ pub enum CertWrite {
     Memory,
 }
 
-/// A claim that is refused, counted from 1, or the head as claim 0; or a number that is stated, counted from 1, the start's first.
+/// A claim that is refused, counted from 1, or the head as claim 0; or a number that is stated,
+/// counted from 1, the start's first.
 #[derive(Clone, Copy, Debug, PartialEq, Eq)]
 pub struct Refused {
     pub number: u64,

@@ -80,7 +80,8 @@ fn with_digit(rule: u8, byte: u8) -> Option<u8>
     requires { 1 ≤ rule }
     ensures some { IfSome result (λ longer. (10 ≤ longer) × (longer ≤ greatest_rule)
         × (longer + 48 ≡ 10 * rule + byte) × (48 ≤ byte) × (byte ≤ 57)) }
-    ensures none { result ≡ None → (digit : ℕ) → digit < 10 → byte ≡ 48 + digit → greatest_rule < 10 * rule + digit }
+    ensures none { result ≡ None → (digit : ℕ) → digit < 10 → byte ≡ 48 + digit → greatest_rule
+        < 10 * rule + digit }
 {
     if rule > 2 || byte < b'0' || byte > b'9' {
         return None;
@@ -170,7 +171,8 @@ impl Begun {
         }
     }
 
-    /// What a piece makes of the line: it is read up to the end of the line, up to a byte that is wrong, or whole.
+    /// What a piece makes of the line: it is read up to the end of the line, up to a byte that is
+    /// wrong, or whole.
     pub fn read(self, piece: &[u8]) -> Stop
         requires { IsBegun self }
         ensures { StopTells self piece.now result }

@@ -55,15 +55,16 @@ impl Claims {
 
     /// Takes the next piece, up to the end of a line. The rest of it is the next piece.
     ///
-    /// A line is refused, by the place of its first byte, as soon as its bytes so far begin no claim's line; every later call
-    /// answers the same.
+    /// A line is refused, by the place of its first byte, as soon as its bytes so far begin no
+    /// claim's line; every later call answers the same.
     pub fn take(&mut self, piece: &[u8]) -> Result<Taken, CertFault>
         requires { self.old.used + length piece.now ≤ 2 ^ 40 }
         ensures taken { self.old.refused ≡ None →
             IfOk result (λ taken. Takes self.old piece.now taken self.new) }
         ensures word { self.old.refused ≡ None →
             IfErr result (λ answer. Refuses self.old piece.now answer self.new) }
-        ensures again { (at : ℕ) → self.old.refused ≡ Some at → result ≡ Err (CertFault.CertWord at) }
+        ensures again { (at : ℕ) → self.old.refused ≡ Some at → result
+            ≡ Err (CertFault.CertWord at) }
         ensures kept { (at : ℕ) → self.old.refused ≡ Some at → self.new ≡ self.old }
     {
         if let Some(at) = self.refused {
@@ -102,9 +103,11 @@ impl Claims {
         self.used += used as u64;
     }
 
-    /// What the end of the bytes is, here: it is wrong within a line, and after a line that was refused.
+    /// What the end of the bytes is, here: it is wrong within a line, and after a line that was
+    /// refused.
     pub fn end(&self) -> Result<(), CertFault>
-        ensures again { (at : ℕ) → self.now.refused ≡ Some at → result ≡ Err (CertFault.CertWord at) }
+        ensures again { (at : ℕ) → self.now.refused ≡ Some at → result
+            ≡ Err (CertFault.CertWord at) }
         ensures end { self.now.refused ≡ None → self.now.begun ≢ [] →
             result ≡ Err (CertFault.CertEnd (line_start self.now)) }
         ensures ok { self.now.refused ≡ None → self.now.begun ≡ [] → IsOk result }

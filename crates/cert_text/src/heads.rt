@@ -16,7 +16,8 @@ use fux_text::read_sing;
 use std::alloc::Global;
 use text_lines::TextFault;
 
-/// The head of this form, this penalty and these lines, whose text is so many bytes, with its form and its length.
+/// The head of this form, this penalty and these lines, whose text is so many bytes, with its form
+/// and its length.
 fn best_head(
     alloc: Global,
     ex: &Exercise,
@@ -30,7 +31,8 @@ fn best_head(
     requires within { used ≤ length bytes.now }
     requires lines { AreLines ex.now lines.now }
     requires text { take used bytes.now ≡ best_text form penalty lines.now }
-    ensures ok { IfOk result (λ found. (found.0 ≡ form) × Heads ex.now found.0 bytes.now found.1 found.2) }
+    ensures ok { IfOk result (λ found. (found.0 ≡ form) × Heads ex.now found.0 bytes.now found.1
+        found.2) }
     ensures same { UnlessMemory result
         (λ found. (found.0 ≡ form) × (penalty_of found.1 ≡ Some penalty) × (found.2 ≡ used)) }
 {
@@ -49,7 +51,8 @@ fn head_up_to(
     bytes: &[u8],
 ) -> Result<(Form, CertHead, usize), CertFault>
     requires { IsValid ex.now }
-    ensures ok { IfOk result (λ found. IsUpTo last found.0 × Heads ex.now found.0 bytes.now found.1 found.2) }
+    ensures ok { IfOk result (λ found. IsUpTo last found.0 × Heads ex.now found.0 bytes.now found.1
+        found.2) }
     ensures fault { IfErr result (IsHeadFault ex.now last bytes.now) }
     ensures texts { AnswersTexts ex.now last bytes.now result }
 {
@@ -69,10 +72,11 @@ fn head_up_to(
 
 /// The head at the front of a certificate of either form, with its form and its length.
 ///
-/// It is refused at the first byte by which no head of either form goes on, or at the end of bytes that end within a head. Whether its
-/// setting is lawful, and has the penalty, isn't judged here. What stands behind a head isn't looked at, and no head is
-/// as long as its limit of 65,536 bytes: a bar has at most eight items, of at most six bytes with the space before each,
-/// so that a head has fewer than 5,000 ([`heads_are_of_settings`]).
+/// It is refused at the first byte by which no head of either form goes on, or at the end of bytes
+/// that end within a head. Whether its setting is lawful, and has the penalty, isn't judged here.
+/// What stands behind a head isn't looked at, and no head is as long as its limit of 65,536 bytes:
+/// a bar has at most eight items, of at most six bytes with the space before each, so that a head
+/// has fewer than 5,000 ([`heads_are_of_settings`]).
 pub fn head_any(
     alloc: Global,
     ex: &Exercise,
@@ -80,7 +84,8 @@ pub fn head_any(
 ) -> Result<(Form, CertHead, usize), CertFault>
     requires { IsValid ex.now }
 
-    // A head that is answered stands at the front, and a fault is where no head of either form goes on.
+    // A head that is answered stands at the front, and a fault is where no head of either form goes
+    // on.
     ensures ok { IfOk result (λ found. Heads ex.now found.0 bytes.now found.1 found.2) }
     ensures fault { IfErr result (IsHeadFault ex.now Form.Second bytes.now) }
 
@@ -92,8 +97,8 @@ pub fn head_any(
     head_up_to(alloc, ex, Form::Second, bytes)
 }
 
-/// The head at the front of a certificate of the first form, and its length. A head of the second form is refused at the
-/// digit of its form. The rest is as [`head_any`] has it.
+/// The head at the front of a certificate of the first form, and its length. A head of the second
+/// form is refused at the digit of its form. The rest is as [`head_any`] has it.
 pub fn head(alloc: Global, ex: &Exercise, bytes: &[u8]) -> Result<(CertHead, usize), CertFault>
     requires { IsValid ex.now }
 
@@ -112,8 +117,9 @@ pub fn head(alloc: Global, ex: &Exercise, bytes: &[u8]) -> Result<(CertHead, usi
     }
 }
 
-/// A law, and nothing to run: the lines of a head are read as the setting that [`fux_text::sing_line`] writes them of, so that
-/// a head stands at the front of bytes just where its text as it is written stands there. One at most does, and none is long.
+/// A law, and nothing to run: the lines of a head are read as the setting that
+/// [`fux_text::sing_line`] writes them of, so that a head stands at the front of bytes just where
+/// its text as it is written stands there. One at most does, and none is long.
 pub fn heads_are_of_settings()
     ensures read { WrittenLinesAreRead }
     ensures best { BestTextsAreWritten }

@@ -1,5 +1,5 @@
-//! The text of certificates: its head, the lines of claims, read from pieces of any size and written, and what is answered
-//! about certificates.
+//! The text of certificates: its head, the lines of claims, read from pieces of any size and
+//! written, and what is answered about certificates.
 #![tactic(auto)]
 
 mod answers;

@@ -45,7 +45,8 @@ impl Model for Potentials {
 #[derive(Clone, Copy, Debug, PartialEq, Eq)]
 pub struct TakenPotential {
     pub used: usize,
-    /// None where the line `claims` ended, or the piece before a line did. All of the piece was used in the second case.
+    /// None where the line `claims` ended, or the piece before a line did. All of the piece was
+    /// used in the second case.
     pub potential: Option<Potential>,
     /// Whether the line `claims` ended.
     pub done: bool,
@@ -65,11 +66,20 @@ fn owed_line(given: u64, count: u64) -> StatedLine
 }
 
 impl Potentials {
-    /// Reads on from a byte, counted from 0, at which the line of the first of so many potentials begins.
+    /// Reads on from a byte, counted from 0, at which the line of the first of so many potentials
+    /// begins.
     pub fn new(at: u64, count: u64) -> Potentials
         requires { at ≤ 2 ^ 40 }
-        ensures { result ≡ record
-            { next = at; used = 0; begun = []; count = count; given = 0; done = false; refused = None } }
+        ensures { result ≡ record {
+          next = at;
+          used = 0;
+          begun = [];
+          count = count;
+          given = 0;
+          done
+              = false;
+          refused = None;
+        } }
     {
         Potentials {
             next: at,
@@ -84,8 +94,8 @@ impl Potentials {
 
     /// Takes the next piece, up to the end of a line. The rest of it is the next piece.
     ///
-    /// A line is refused, by the place of its first byte, as soon as its bytes so far begin no line that is owed; every later call
-    /// answers the same.
+    /// A line is refused, by the place of its first byte, as soon as its bytes so far begin no line
+    /// that is owed; every later call answers the same.
     pub fn take(&mut self, piece: &[u8]) -> Result<TakenPotential, CertFault>
         requires room { self.old.used + length piece.now ≤ 2 ^ 40 }
         requires more { self.old.done ≡ false }
@@ -93,7 +103,8 @@ impl Potentials {
             IfOk result (λ taken. TakesPotential self.old piece.now taken self.new) }
         ensures word { self.old.refused ≡ None →
             IfErr result (λ answer. RefusesPotential self.old piece.now answer self.new) }
-        ensures again { (at : ℕ) → self.old.refused ≡ Some at → result ≡ Err (CertFault.CertWord at) }
+        ensures again { (at : ℕ) → self.old.refused ≡ Some at → result
+            ≡ Err (CertFault.CertWord at) }
         ensures kept { (at : ℕ) → self.old.refused ≡ Some at → self.new ≡ self.old }
     {
         if let Some(at) = self.refused {
@@ -135,7 +146,8 @@ impl Potentials {
         }
     }
 
-    /// So many bytes more were used, so many potentials were given, and this is the line that was begun.
+    /// So many bytes more were used, so many potentials were given, and this is the line that was
+    /// begun.
     fn go_on(&mut self, used: usize, line: StatedLine, given: u64)
         requires line { IsStatedLine line }
         requires kind { is_of_potential line ≡ nat_lt given self.old.count }
@@ -150,11 +162,13 @@ impl Potentials {
         self.given = given;
     }
 
-    /// What the end of the bytes is, here: a line that was begun isn't ended, or one is wanting; or a line was refused.
+    /// What the end of the bytes is, here: a line that was begun isn't ended, or one is wanting; or
+    /// a line was refused.
     pub fn end(&self) -> CertFault
         requires { self.now.done ≡ false }
         ensures again { (at : ℕ) → self.now.refused ≡ Some at → result ≡ CertFault.CertWord at }
-        ensures end { self.now.refused ≡ None → result ≡ CertFault.CertEnd (potential_line_start self.now) }
+        ensures end { self.now.refused ≡ None → result ≡ CertFault.CertEnd
+            (potential_line_start self.now) }
     {
         if let Some(at) = self.refused {
             return CertFault::CertWord { at };

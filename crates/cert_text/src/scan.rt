@@ -1,5 +1,5 @@
-//! Reading the text of a head, piece by piece. Each function reads what stands at the front of the bytes and gives the bytes
-//! behind it, or says how many bytes are left where no such text goes on.
+//! Reading the text of a head, piece by piece. Each function reads what stands at the front of the
+//! bytes and gives the bytes behind it, or says how many bytes are left where no such text goes on.
 
 ghost use Rattle.std.specs.Prelude.{◌≡◌, ◌+◌, ◌*◌, ◌-◌, ◌<◌, ◌≤◌, ◌==◌, ◌∷◌, [], ℕ, IfErr, IfOk, IfSome, IsTrue, List, None, Some, length, take, option_map, codes};
 ghost use Rattle.fux_pitch.specs.declared.pitch.Pitch.{Pitch};
@@ -16,7 +16,8 @@ use crate::answers::Form;
 use fux_grid::{Cell, Exercise};
 use fux_pitch::{Pitch, parse_pitch};
 
-/// What a head says: its form, and its penalty and its lines, unless it says that there is no setting; and the bytes behind it.
+/// What a head says: its form, and its penalty and its lines, unless it says that there is no
+/// setting; and the bytes behind it.
 #[derive(Clone, Copy)]
 pub struct Scan<'a> {
     pub form: Form,
@@ -101,8 +102,10 @@ pub fn number_line(bytes: &[u8]) -> Result<(u64, &[u8]), usize>
 
 /// The pitch whose name is so many bytes at the front.
 fn pitch_of(bytes: &[u8], len: usize) -> Option<Pitch>
-    ensures some { IfSome result (λ p. (len ≤ length bytes.now) × (take len bytes.now ≡ name_of p)) }
-    ensures none { result ≡ None → (p : Pitch) → len ≤ length bytes.now → take len bytes.now ≡ name_of p → ⊥ }
+    ensures some { IfSome result (λ p. (len ≤ length bytes.now)
+        × (take len bytes.now ≡ name_of p)) }
+    ensures none { result ≡ None → (p : Pitch) → len ≤ length bytes.now → take len bytes.now
+        ≡ name_of p → ⊥ }
 {
     if bytes.len() < len {
         return None;
@@ -124,7 +127,8 @@ fn is_sign(byte: u8) -> bool
     byte == b'#' || byte == b'b'
 }
 
-/// How many bytes are left where bytes stop being the name of a pitch: a letter, or a letter and a sign, begins one.
+/// How many bytes are left where bytes stop being the name of a pitch: a letter, or a letter and a
+/// sign, begins one.
 fn behind_name(bytes: &[u8]) -> usize
     requires two { (p : Pitch) → 2 ≤ length bytes.now → take 2 bytes.now ≡ name_of p → ⊥ }
     requires three { (p : Pitch) → 3 ≤ length bytes.now → take 3 bytes.now ≡ name_of p → ⊥ }
@@ -196,7 +200,8 @@ fn hold(i: u8, before: Cell) -> Option<Cell>
 /// The rest or the hold that a byte calls, if it can stand there.
 fn rest_or_hold(byte: u8, i: u8, before: Cell) -> Option<Cell>
     ensures some { IfSome result (λ c. IsTrue (can_stand i before c) × (item_name c ≡ byte ∷ [])) }
-    ensures none { result ≡ None → (c : Cell) → IsTrue (can_stand i before c) → item_name c ≡ byte ∷ [] → ⊥ }
+    ensures none { result ≡ None → (c : Cell) → IsTrue (can_stand i before c) → item_name c ≡ byte
+        ∷ [] → ⊥ }
 {
     if byte == b'r' {
         return rest(i, before);
@@ -209,7 +214,8 @@ fn rest_or_hold(byte: u8, i: u8, before: Cell) -> Option<Cell>
 
 /// Reads the name of a note that starts.
 fn start(bytes: &[u8]) -> Result<(Cell, &[u8]), usize>
-    ensures ok { IfOk result (λ found. (i : ℕ) → (before : Cell) → Reads (ItemName i before) bytes.now found.0 found.1.now) }
+    ensures ok { IfOk result (λ found. (i : ℕ) → (before : Cell) → Reads (ItemName i before)
+        bytes.now found.0 found.1.now) }
     ensures err { IfErr result (λ left. Stops PitchName bytes.now left) }
 {
     match pitch(bytes) {
@@ -277,7 +283,8 @@ fn held(cell: Cell) -> Cell
     }
 }
 
-/// Reads items behind so many columns and this cell, through the end of a line of so many bars; there are at most so many.
+/// Reads items behind so many columns and this cell, through the end of a line of so many bars;
+/// there are at most so many.
 fn items(bars: u8, most: u8, i: u8, before: Cell, bytes: &[u8]) -> Result<&[u8], usize>
     requires few { bars ≤ 24 }
     requires here { i < 8 * bars }
@@ -321,8 +328,10 @@ fn line<'a>(ex: &Exercise, v: u8, bytes: &'a [u8]) -> Result<&'a [u8], usize>
 /// Reads the lines of the free voices from this one on.
 fn lines<'a>(ex: &Exercise, v: u8, bytes: &'a [u8]) -> Result<&'a [u8], usize>
     requires { IsValid ex.now }
-    ensures ok { IfOk result (λ rest. Reads (SingLines ex.now (free_from ex.now v)) bytes.now tt rest.now) }
-    ensures err { IfErr result (λ left. Stops (SingLines ex.now (free_from ex.now v)) bytes.now left) }
+    ensures ok { IfOk result (λ rest. Reads (SingLines ex.now (free_from ex.now v)) bytes.now tt
+        rest.now) }
+    ensures err { IfErr result (λ left. Stops (SingLines ex.now (free_from ex.now v)) bytes.now
+        left) }
 {
     if v >= ex.voices {
         return Ok(bytes);
@@ -347,7 +356,8 @@ fn closing(form: Form) -> &'static [u8]
 /// Reads what follows the `b` of `best`.
 fn best<'a>(ex: &Exercise, form: Form, bytes: &'a [u8]) -> Result<Scan<'a>, usize>
     requires { IsValid ex.now }
-    ensures ok { IfOk result (λ found. Reads (BestRow ex.now form) bytes.now (said_of found) found.rest.now) }
+    ensures ok { IfOk result (λ found. Reads (BestRow ex.now form) bytes.now (said_of found)
+        found.rest.now) }
     ensures err { IfErr result (λ left. Stops (BestRow ex.now form) bytes.now left) }
 {
     let digits = fixed(bytes, b"est ")?;
@@ -374,7 +384,8 @@ fn none_rest(form: Form) -> &'static [u8]
 
 /// Reads what follows the `n` of `none`.
 fn nothing(form: Form, bytes: &[u8]) -> Result<Scan<'_>, usize>
-    ensures ok { IfOk result (λ found. Reads (NothingRow form) bytes.now (said_of found) found.rest.now) }
+    ensures ok { IfOk result (λ found. Reads (NothingRow form) bytes.now (said_of found)
+        found.rest.now) }
     ensures err { IfErr result (λ left. Stops (NothingRow form) bytes.now left) }
 {
     let rest = fixed(bytes, none_rest(form))?;
@@ -389,7 +400,8 @@ fn nothing(form: Form, bytes: &[u8]) -> Result<Scan<'_>, usize>
 /// Reads the second line and those behind it.
 fn kind<'a>(ex: &Exercise, form: Form, bytes: &'a [u8]) -> Result<Scan<'a>, usize>
     requires { IsValid ex.now }
-    ensures ok { IfOk result (λ found. Reads (KindsRow ex.now form) bytes.now (said_of found) found.rest.now) }
+    ensures ok { IfOk result (λ found. Reads (KindsRow ex.now form) bytes.now (said_of found)
+        found.rest.now) }
     ensures err { IfErr result (λ left. Stops (KindsRow ex.now form) bytes.now left) }
 {
     let Some((byte, rest)) = next(bytes) else {
@@ -442,7 +454,8 @@ fn form_digit(last: Form, bytes: &[u8]) -> Result<(Form, &[u8]), usize>
 /// Reads what follows the digit of a form.
 fn behind_form<'a>(ex: &Exercise, form: Form, bytes: &'a [u8]) -> Result<Scan<'a>, usize>
     requires { IsValid ex.now }
-    ensures ok { IfOk result (λ found. Reads (FeedRow ex.now form) bytes.now (said_of found) found.rest.now) }
+    ensures ok { IfOk result (λ found. Reads (FeedRow ex.now form) bytes.now (said_of found)
+        found.rest.now) }
     ensures err { IfErr result (λ left. Stops (FeedRow ex.now form) bytes.now left) }
 {
     let second = fixed(bytes, b"\n")?;
@@ -452,7 +465,8 @@ fn behind_form<'a>(ex: &Exercise, form: Form, bytes: &'a [u8]) -> Result<Scan<'a
 /// Reads the digit of a form up to this one, and what follows it.
 fn numbered<'a>(ex: &Exercise, last: Form, bytes: &'a [u8]) -> Result<Scan<'a>, usize>
     requires { IsValid ex.now }
-    ensures ok { IfOk result (λ found. Reads (FormRow ex.now last) bytes.now (said_of found) found.rest.now) }
+    ensures ok { IfOk result (λ found. Reads (FormRow ex.now last) bytes.now (said_of found)
+        found.rest.now) }
     ensures err { IfErr result (λ left. Stops (FormRow ex.now last) bytes.now left) }
 {
     let (form, feed) = form_digit(last, bytes)?;
@@ -462,7 +476,8 @@ fn numbered<'a>(ex: &Exercise, last: Form, bytes: &'a [u8]) -> Result<Scan<'a>, 
 /// Reads a head of a form up to this one.
 pub fn scan_head<'a>(ex: &Exercise, last: Form, bytes: &'a [u8]) -> Result<Scan<'a>, usize>
     requires { IsValid ex.now }
-    ensures ok { IfOk result (λ found. Reads (HeadRow ex.now last) bytes.now (said_of found) found.rest.now) }
+    ensures ok { IfOk result (λ found. Reads (HeadRow ex.now last) bytes.now (said_of found)
+        found.rest.now) }
     ensures err { IfErr result (λ left. Stops (HeadRow ex.now last) bytes.now left) }
 {
     let digit = fixed(bytes, b"fux-cert ")?;

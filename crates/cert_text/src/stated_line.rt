@@ -83,7 +83,8 @@ fn after_blank(byte: u8) -> StatedStep
     }
 }
 
-/// The number whose digits are those of another one and one more; none where that begins with a zero, or is too great.
+/// The number whose digits are those of another one and one more; none where that begins with a
+/// zero, or is too great.
 fn with_digit(number: u32, byte: u8) -> Option<u32>
     ensures some { IfSome result (λ longer. (1 ≤ number) × (longer + 48 ≡ 10 * number + byte)
         × (48 ≤ byte) × (byte ≤ 57)) }
@@ -171,7 +172,8 @@ impl StatedLine {
         }
     }
 
-    /// What a piece makes of the line: it is read up to the end of the line, up to a byte that is wrong, or whole.
+    /// What a piece makes of the line: it is read up to the end of the line, up to a byte that is
+    /// wrong, or whole.
     pub fn read(self, piece: &[u8]) -> StatedStop
         requires { IsStatedLine self }
         ensures { StopTells self piece.now result }

@@ -1,4 +1,5 @@
--- Claims that were judged are certified just where in the end none was refused and no node is owed (`are_certified`, `are_none`).
+-- Claims that were judged are certified just where in the end none was refused and no node is owed
+-- (`are_certified`, `are_none`).
 use Rattle.std.specs.Prelude.{◌≡◌, ◌⊎◌, ◌<◌, List, [], ◌∷◌, ◌++◌, Option, Some, None, is_some, true, false, length, reverse, refl}
 use Rattle.std.proofs.Common.{arith, inl, inr, ap, sym, ◌∙◌, subst}
 use Rattle.std.proofs.lemmas.List.{length-reverse, nil_from_length}

@@ -1,4 +1,5 @@
--- Levels: what is owed where one is added (`owed-entered`), and what one is that was taken away (`level_parts`).
+-- Levels: what is owed where one is added (`owed-entered`), and what one is that was taken away
+-- (`level_parts`).
 use Rattle.std.specs.Prelude.{◌≡◌, ℕ, ◌+◌, ◌<◌, Bool, List, [], ◌∷◌, ◌++◌, length, reverse, slice_index_or, slice_set, refl, if◌then◌else◌}
 use Rattle.std.proofs.Common.{arith, ap, sym, ◌∙◌, subst}
 use Rattle.std.proofs.lemmas.List.{length-reverse, reverse-append}

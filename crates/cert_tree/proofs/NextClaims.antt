@@ -1,5 +1,5 @@
--- The claims to come are the own claim of the next node, and those of what that owes in its place (`claims_step`), which are true
--- (`told_step`).
+-- The claims to come are the own claim of the next node, and those of what that owes in its place
+-- (`claims_step`), which are true (`told_step`).
 use Rattle.std.specs.Prelude.{◌≡◌, ℕ, zero, suc, ◌+◌, Bool, true, false, List, [], ◌∷◌, ◌++◌, refl, if◌then◌else◌}
 use Rattle.std.specs.List.{AllByRecursion, flat_map}
 use Rattle.std.proofs.Common.{arith, ap, sym, ◌∙◌, subst}

@@ -1,4 +1,5 @@
--- Own claims that are true are certified (`written_from`): so are the claims of several nodes, one after the other (`certified-append`).
+-- Own claims that are true are certified (`written_from`): so are the claims of several nodes, one
+-- after the other (`certified-append`).
 use Rattle.std.proofs.Common.{◌≡◌, ℕ, zero, suc, Bool, true, false, List, [], ◌∷◌, ◌++◌, refl, sym, subst, append_assoc}
 use Rattle.std.specs.Prelude.{if◌then◌else◌}
 use Rattle.std.specs.List.{AllByRecursion, flat_map}

@@ -1,5 +1,5 @@
--- Certified claims leave nothing that refutes (`none_refutes_from`): as long as true claims are taken, what refutes is begun by a node that
--- is owed (`claim_kept`), and in the end none is owed.
+-- Certified claims leave nothing that refutes (`none_refutes_from`): as long as true claims are
+-- taken, what refutes is begun by a node that is owed (`claim_kept`), and in the end none is owed.
 use Rattle.std.proofs.Common.{◌≡◌, inl, inr, Bool, true, false, List, [], ◌∷◌, ◌++◌, refl}
 use Rattle.std.specs.Prelude.{if◌then◌else◌}
 use Rattle.cert_tree.specs.Trees.{Excludes, IsBegunByOne, IsCertified, IsCertifiedFrom, OwesRefuting, Tree, owed_by}

@@ -6,7 +6,8 @@ use Rattle.cert_tree.specs.declared.judging.Judging.{Judging}
 use Rattle.cert_tree.specs.declared.judging.Refusal.{Refusal}
 use Rattle.cert_tree.specs.declared.judging.Cause.TheVariants.{False, Over}
 
--- the nodes that are owed, the next one first, how many claims were taken, and the refusal that is kept
+-- the nodes that are owed, the next one first, how many claims were taken, and the refusal that is
+-- kept
 pub record Standing (X : Type 0) : Type 0 where
   pub owed : List X
   pub count : ℕ
@@ -20,7 +21,8 @@ standing_of ways judging =
 abbrev pub begun_at : {X : Type 0} → X → Standing X
 begun_at root = record { owed = root ∷ []; count = 0; refusal = None }
 
--- a claim is taken: it is true of the first node that is owed, and what it owes stands in the place of that
+-- a claim is taken: it is true of the first node that is owed, and what it owes stands in the place
+-- of that
 abbrev pub TakesOf : {X C : Type 0} → Tree X C → Standing X → List X → C → Standing X → Type 0
 TakesOf tree old [] claim new = ⊥
 TakesOf tree old (p ∷ owed) claim new =
@@ -40,7 +42,8 @@ abbrev pub Refuses : {X C : Type 0} → Tree X C → Standing X → C → Refusa
 Refuses tree old claim refused new =
     IsFault tree old old.owed claim refused × (new ≡ record old { refusal = Some refused })
 
--- what is kept as claims are judged: as long as none was refused, each leaf that refutes is begun by a node that is owed
+-- what is kept as claims are judged: as long as none was refused, each leaf that refutes is begun
+-- by a node that is owed
 pub record IsKept {X C L K : Type 0} (tree : Tree X C) (IsOf : K → X → Type 0) (ways : Ways X) (Begins : X → L → Type 0)
     (Refutes : L → Type 0) (judging : Judging K) : Type 0 where
   pub walk : IsWalk tree IsOf ways judging.walk

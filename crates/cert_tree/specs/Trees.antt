@@ -2,19 +2,21 @@
 use Rattle.std.specs.Prelude.{◌≡◌, ℕ, zero, suc, Bool, true, false, List, [], ◌∷◌, ◌++◌, ◌⊎◌, ⊤, if◌then◌else◌}
 use Rattle.std.specs.List.{AllByRecursion, flat_map}
 
--- a tree whose nodes are of the type X, with claims C of them: when a claim is true of a node, whether a claim says that its node is
--- open, and the nodes that are longer than one by a step, in their order
+-- a tree whose nodes are of the type X, with claims C of them: when a claim is true of a node,
+-- whether a claim says that its node is open, and the nodes that are longer than one by a step, in
+-- their order
 pub record Tree (X C : Type 0) : Type 1 where
   pub IsTrueOf : X → C → Type 0
   pub is_open : C → Bool
   pub longer : X → List X
 
--- what a claim of a node owes in its place: where it says that the node is open, all that are longer by a step
+-- what a claim of a node owes in its place: where it says that the node is open, all that are
+-- longer by a step
 abbrev pub owed_by : {X C : Type 0} → Tree X C → X → C → List X
 owed_by tree p claim = if tree.is_open claim then tree.longer p else []
 
--- the claims are those of the nodes that are owed, the next one first, and of what they owe in their place; each is true, none is owed
--- when they end, and none is over
+-- the claims are those of the nodes that are owed, the next one first, and of what they owe in
+-- their place; each is true, none is owed when they end, and none is over
 abbrev pub IsCertified : {X C : Type 0} → Tree X C → List X → List C → Type 0
 IsCertified tree [] [] = ⊤
 IsCertified tree (p ∷ owed) [] = ⊥
@@ -48,13 +50,15 @@ pub record Excludes {X C L : Type 0} (tree : Tree X C) (Begins : X → L → Typ
 
 -- ---- what is written
 
--- the claims of a node and of all that it owes, where each node has a claim of its own and so many steps more may come
+-- the claims of a node and of all that it owes, where each node has a claim of its own and so many
+-- steps more may come
 unfoldable pub claims_from : {X C : Type 0} → Tree X C → (X → C) → ℕ → X → List C
 claims_from tree own zero p = own p ∷ []
 claims_from tree own (suc count) p =
     own p ∷ (if tree.is_open (own p) then flat_map (claims_from tree own count) (tree.longer p) else [])
 
--- each own claim is true, of a node and of all that it owes, and no node is open where no step more may come
+-- each own claim is true, of a node and of all that it owes, and no node is open where no step more
+-- may come
 abbrev pub AreTrueFrom : {X C : Type 0} → Tree X C → (X → C) → ℕ → X → Type 0
 AreTrueFrom tree own zero p = tree.IsTrueOf p (own p) × (tree.is_open (own p) ≡ false)
 AreTrueFrom tree own (suc count) p =

@@ -1,13 +1,14 @@
--- Where a judge of claims stands: the open nodes that begin the one owed next, as what is known of each and the number of the step by
--- which it goes on.
+-- Where a judge of claims stands: the open nodes that begin the one owed next, as what is known of
+-- each and the number of the step by which it goes on.
 use Rattle.std.specs.Prelude.{◌≡◌, ℕ, ◌+◌, ◌<◌, Bool, true, List, [], ◌∷◌, ◌++◌, Option, Some, None, IfSome, reverse, vec_capacity, ⊤, if◌then◌else◌}
 use Rattle.std.specs.List.{AllByRecursion}
 use Rattle.cert_tree.specs.Trees.{Tree}
 use Rattle.cert_tree.specs.declared.walk.Level.{Level}
 use Rattle.cert_tree.specs.declared.walk.Walk.{Walk}
 
--- how nodes are found by numbers: the one of a number behind a node, and whether a step of that number leads to it, the nodes that are
--- longer by a step from a number on, how many steps lead to a node, and how many may
+-- how nodes are found by numbers: the one of a number behind a node, and whether a step of that
+-- number leads to it, the nodes that are longer by a step from a number on, how many steps lead to
+-- a node, and how many may
 pub record Ways (X : Type 0) : Type 0 where
   pub root : X
   pub child : X → ℕ → X
@@ -49,7 +50,8 @@ pub record IsOfStep {X C K : Type 0} (tree : Tree X C) (IsOf : K → X → Type 
   pub is_open : IsOpen tree IsOf node known
   pub step : ways.is_step node number ≡ true
 
--- this holds of the node to which the step of a number leads, whatever node this is known of from which there is such a step
+-- this holds of the node to which the step of a number leads, whatever node this is known of from
+-- which there is such a step
 abbrev pub IsBehind : {X K : Type 0} → (K → X → Type 0) → Ways X → K → ℕ → (X → Type 0) → Type 0
 IsBehind IsOf ways known number Holds =
     (p : _) → IsOf known p → ways.is_step p number ≡ true → Holds (ways.child p number)
@@ -85,12 +87,14 @@ owed_later ways (level ∷ older) = ways.longer_from (node_at ways older) (level
 abbrev pub owed_from : {X K : Type 0} → Ways X → List (Level K) → ℕ → List X
 owed_from ways levels from = ways.longer_from (node_at ways levels) from ++ owed_later ways levels
 
--- what is owed after a claim of that node: where it is open, each one that is longer by a step comes first
+-- what is owed after a claim of that node: where it is open, each one that is longer by a step
+-- comes first
 abbrev pub owed_after : {X K : Type 0} → Ways X → List (Level K) → Bool → List X
 owed_after ways levels is_open =
     (if is_open then ways.longer_from (node_at ways levels) 0 else []) ++ owed_later ways levels
 
--- what is owed: the node to which the levels lead, and what is owed later; where there is no level, the root or nothing
+-- what is owed: the node to which the levels lead, and what is owed later; where there is no level,
+-- the root or nothing
 abbrev pub owed_at : {X K : Type 0} → Ways X → List (Level K) → Option K → List X
 owed_at ways [] None = []
 owed_at ways [] (Some known) = ways.root ∷ []

@@ -4,8 +4,9 @@ ghost use Rattle.std.specs.Prelude.{◌≡◌, ◌↔◌, ℕ, ◌≤◌, IsTrue
 ghost use Rattle.cert_tree.specs.Trees.{Excludes, Tree};
 ghost use Rattle.cert_tree.specs.Walks.{AreWays, IsBehind, IsNextOf, IsOfOpen, IsOfSome, IsOfStep, Ways};
 
-/// A tree, what may be claimed of its nodes, and the leaves that true claims exclude; and what has to be known of a node so that its
-/// claims can be told to be true or false, and so that one can go on to the nodes that are longer by a step.
+/// A tree, what may be claimed of its nodes, and the leaves that true claims exclude; and what has
+/// to be known of a node so that its claims can be told to be true or false, and so that one can go
+/// on to the nodes that are longer by a step.
 pub trait ClaimTree {
     /// What is claimed of a node.
     type Claim: Copy;
@@ -66,10 +67,11 @@ pub trait ClaimTree {
     /// Whether a claim is true.
     fn is_true(&self, known: &Self::Known, claim: Self::Claim) -> bool
         requires { IsOfSome (is_of self.now) known.now }
-        ensures { (p : Node) → is_of self.now known.now p → IsTrue result ↔ (tree self.now).IsTrueOf p claim };
+        ensures { (p : Node) → is_of self.now known.now p → IsTrue result ↔ (tree self.now).IsTrueOf
+            p claim };
 
-    /// Whether a claim is true of the node behind an open one to which the step of a number leads. A tree may tell it without all that
-    /// would have to be known of that node.
+    /// Whether a claim is true of the node behind an open one to which the step of a number leads.
+    /// A tree may tell it without all that would have to be known of that node.
     fn is_true_behind(&self, known: &Self::Known, number: usize, claim: Self::Claim) -> bool
         requires { IsOfStep (tree self.now) (is_of self.now) (ways self.now) number known.now }
         ensures { IsBehind (is_of self.now) (ways self.now) known.now number
@@ -84,10 +86,12 @@ pub trait ClaimTree {
         requires { IsOfSome (is_of self.now) known.now }
         ensures { (p : Node) → is_of self.now known.now p → result ≡ own self.now p };
 
-    /// The claim that is written of the node behind an open one to which the step of a number leads, as `is_true_behind`.
+    /// The claim that is written of the node behind an open one to which the step of a number
+    /// leads, as `is_true_behind`.
     fn own_claim_behind(&self, known: &Self::Known, number: usize) -> Self::Claim
         requires { IsOfStep (tree self.now) (is_of self.now) (ways self.now) number known.now }
-        ensures { IsBehind (is_of self.now) (ways self.now) known.now number (λ p. result ≡ own self.now p) }
+        ensures { IsBehind (is_of self.now) (ways self.now) known.now number (λ p. result
+            ≡ own self.now p) }
     {
         let next = self.behind(known, number);
         self.own_claim(&next)

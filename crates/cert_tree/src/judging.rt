@@ -27,8 +27,8 @@ pub struct Refusal {
     pub cause: Cause,
 }
 
-/// How far claims were judged. It holds the open nodes that begin the one owed next, and nothing else of what was judged, so it takes
-/// no memory after it was begun.
+/// How far claims were judged. It holds the open nodes that begin the one owed next, and nothing
+/// else of what was judged, so it takes no memory after it was begun.
 #[derive(Drop)]
 pub struct Judging<K: Copy> {
     pub walk: Walk<K>,
@@ -38,9 +38,10 @@ pub struct Judging<K: Copy> {
 
 /// The root alone is owed. All memory is taken here.
 pub fn begin<T: ClaimTree>(alloc: Global, it: &T) -> Result<Judging<T::Known>, AllocError>
-    ensures standing { IfOk result (λ judging. standing_of (T.ways it.now) judging ≡ begun_at (T.root it.now)) }
-    ensures kept { IfOk result
-        (IsKept (T.tree it.now) (T.is_of it.now) (T.ways it.now) (T.begins it.now) (T.refutes it.now)) }
+    ensures standing { IfOk result (λ judging. standing_of (T.ways it.now) judging
+        ≡ begun_at (T.root it.now)) }
+    ensures kept { IfOk result (IsKept (T.tree it.now) (T.is_of it.now) (T.ways it.now)
+        (T.begins it.now) (T.refutes it.now)) }
 {
     let levels = Vec::with_capacity(alloc, it.depth())?;
     let root = Some(it.first());
@@ -51,17 +52,21 @@ pub fn begin<T: ClaimTree>(alloc: Global, it: &T) -> Result<Judging<T::Known>, A
     })
 }
 
-/// Judges a claim of the node that is owed next. It is taken where it is true of it; after a refusal every call answers the same.
+/// Judges a claim of the node that is owed next. It is taken where it is true of it; after a
+/// refusal every call answers the same.
 pub fn feed<T: ClaimTree>(
     it: &T,
     judging: &mut Judging<T::Known>,
     claim: T::Claim,
 ) -> Result<(), Refusal>
-    requires kept { IsKept (T.tree it.now) (T.is_of it.now) (T.ways it.now) (T.begins it.now) (T.refutes it.now) judging.old }
+    requires kept { IsKept (T.tree it.now) (T.is_of it.now) (T.ways it.now) (T.begins it.now)
+        (T.refutes it.now) judging.old }
     requires few { judging.old.taken < 2 ^ 40 }
-    ensures kept { IsKept (T.tree it.now) (T.is_of it.now) (T.ways it.now) (T.begins it.now) (T.refutes it.now) judging.new }
-    ensures taken { judging.old.refusal ≡ None → OnOk result
-        (Takes (T.tree it.now) (standing_of (T.ways it.now) judging.old) claim (standing_of (T.ways it.now) judging.new)) }
+    ensures kept { IsKept (T.tree it.now) (T.is_of it.now) (T.ways it.now) (T.begins it.now)
+        (T.refutes it.now) judging.new }
+    ensures taken { judging.old.refusal ≡ None
+        → OnOk result (Takes (T.tree it.now) (standing_of (T.ways it.now) judging.old) claim
+        (standing_of (T.ways it.now) judging.new)) }
     ensures refused { judging.old.refusal ≡ None → IfErr result (λ refused.
         Refuses (T.tree it.now) (standing_of (T.ways it.now) judging.old) claim refused
         (standing_of (T.ways it.now) judging.new)) }
@@ -86,8 +91,8 @@ pub fn feed<T: ClaimTree>(
 fn refuse<K: Copy>(judging: &mut Judging<K>, cause: Cause) -> Result<(), Refusal>
     requires { judging.old.taken < 2 ^ 40 }
     ensures answer { result ≡ Err (record { number = judging.old.taken + 1; cause = cause }) }
-    ensures kept { judging.new
-        ≡ record judging.old { refusal = Some (record { number = judging.old.taken + 1; cause = cause }) } }
+    ensures kept { judging.new ≡ record judging.old
+        { refusal = Some (record { number = judging.old.taken + 1; cause = cause }) } }
 {
     let refused = Refusal {
         number: judging.taken + 1,
@@ -99,12 +104,15 @@ fn refuse<K: Copy>(judging: &mut Judging<K>, cause: Cause) -> Result<(), Refusal
 
 /// Whether claims may end here: none was refused and none is owed. Then no leaf refutes.
 pub fn finish<T: ClaimTree>(it: &T, judging: &Judging<T::Known>) -> Result<(), Refusal>
-    requires kept { IsKept (T.tree it.now) (T.is_of it.now) (T.ways it.now) (T.begins it.now) (T.refutes it.now) judging.now }
+    requires kept { IsKept (T.tree it.now) (T.is_of it.now) (T.ways it.now) (T.begins it.now)
+        (T.refutes it.now) judging.now }
     requires few { judging.now.taken ≤ 2 ^ 40 }
-    ensures accepted { judging.now.refusal ≡ None → (standing_of (T.ways it.now) judging.now).owed ≡ [] → result ≡ Ok tt }
-    ensures short { judging.now.refusal ≡ None → (standing_of (T.ways it.now) judging.now).owed ≢ [] →
-        result ≡ Err (record { number = judging.now.taken + 1; cause = causes.Short }) }
-    ensures again { (refused : ARefusal) → judging.now.refusal ≡ Some refused → result ≡ Err refused }
+    ensures accepted { judging.now.refusal ≡ None → (standing_of (T.ways it.now) judging.now).owed
+        ≡ [] → result ≡ Ok tt }
+    ensures short { judging.now.refusal ≡ None → (standing_of (T.ways it.now) judging.now).owed ≢ []
+        → result ≡ Err (record { number = judging.now.taken + 1; cause = causes.Short }) }
+    ensures again { (refused : ARefusal) → judging.now.refusal ≡ Some refused → result
+        ≡ Err refused }
     ensures shown { OnOk result ((leaf : T.Leaf) → T.refutes it.now leaf → ⊥) }
 
     // Where all claims since it was begun were judged by it: they are certified, or not.

@@ -1,5 +1,5 @@
-//! Certificates over a tree of any kind: claims of its nodes in preorder, what true claims show of which none is owed and none is over,
-//! and how claims are judged one after the other.
+//! Certificates over a tree of any kind: claims of its nodes in preorder, what true claims show of
+//! which none is owed and none is over, and how claims are judged one after the other.
 #![tactic(auto)]
 
 mod claim_tree;

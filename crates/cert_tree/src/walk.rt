@@ -14,25 +14,31 @@ pub struct Level<K: Copy> {
     pub number: usize,
 }
 
-/// The open nodes that begin the one owed next, the shortest first: the last one's step leads to that. Where there is none, the root is owed
-/// next, if anything is known of it, and else nothing is owed.
+/// The open nodes that begin the one owed next, the shortest first: the last one's step leads to
+/// that. Where there is none, the root is owed next, if anything is known of it, and else nothing
+/// is owed.
 #[derive(Drop)]
 pub struct Walk<K: Copy> {
     pub levels: Vec<Level<K>>,
     pub root: Option<K>,
 }
 
-/// Goes to the first node that is longer than an open one by a step of this number or a later one, where there is one.
+/// Goes to the first node that is longer than an open one by a step of this number or a later one,
+/// where there is one.
 fn enter<T: ClaimTree>(it: &T, walk: &mut Walk<T::Known>, parent: T::Known, from: usize) -> bool
-    requires levels { AreLevels (T.tree it.now) (T.is_of it.now) (T.ways it.now) (levels_of walk.old) }
+    requires levels { AreLevels (T.tree it.now) (T.is_of it.now) (T.ways it.now)
+        (levels_of walk.old) }
     requires root { IfSome walk.old.root (λ known. T.is_of it.now known (T.ways it.now).root) }
     requires room { vec_capacity walk.old.levels ≡ (T.ways it.now).height }
-    requires parent { IsOpen (T.tree it.now) (T.is_of it.now) (node_at (T.ways it.now) (levels_of walk.old)) parent }
+    requires parent { IsOpen (T.tree it.now) (T.is_of it.now)
+        (node_at (T.ways it.now) (levels_of walk.old)) parent }
     requires from { from ≤ 8192 }
-    ensures walk { OnTrue result (IsWalk (T.tree it.now) (T.is_of it.now) (T.ways it.now) walk.new) }
-    ensures owed { OnTrue result
-        (owed_by_walk (T.ways it.now) walk.new ≡ owed_from (T.ways it.now) (levels_of walk.old) from) }
-    ensures none { OnFalse result ((T.ways it.now).longer_from (node_at (T.ways it.now) (levels_of walk.old)) from ≡ []) }
+    ensures walk { OnTrue result (IsWalk (T.tree it.now) (T.is_of it.now) (T.ways it.now)
+        walk.new) }
+    ensures owed { OnTrue result (owed_by_walk (T.ways it.now) walk.new ≡ owed_from (T.ways it.now)
+        (levels_of walk.old) from) }
+    ensures none { OnFalse result ((T.ways it.now).longer_from (node_at (T.ways it.now) (levels_of walk.old))
+        from ≡ []) }
     ensures same { OnFalse result (walk.new ≡ walk.old) }
 {
     let Some(number) = it.next(&parent, from) else {
@@ -42,11 +48,12 @@ fn enter<T: ClaimTree>(it: &T, walk: &mut Walk<T::Known>, parent: T::Known, from
     true
 }
 
-/// Goes on by another step from the newest of the levels. What is known of its node stays where it stands.
+/// Goes on by another step from the newest of the levels. What is known of its node stays where it
+/// stands.
 fn renumber<K: Copy>(levels: &mut Vec<Level<K>>, number: usize)
     requires some { 0 < length levels.old.items }
-    ensures items { (older : List (ALevel K)) (level : ALevel K) → levels.old.items ≡ older ++ level ∷ []
-        → levels.new.items ≡ older ++ record level { number = number } ∷ [] }
+    ensures items { (older : List (ALevel K)) (level : ALevel K) → levels.old.items ≡ older ++ level
+        ∷ [] → levels.new.items ≡ older ++ record level { number = number } ∷ [] }
     ensures room { vec_capacity levels.new ≡ vec_capacity levels.old }
 {
     let top = levels.len() - 1;
@@ -55,11 +62,13 @@ fn renumber<K: Copy>(levels: &mut Vec<Level<K>>, number: usize)
 
 /// Goes to the next node that is owed behind those of the levels.
 fn go_up<T: ClaimTree>(it: &T, walk: &mut Walk<T::Known>)
-    requires levels { AreLevels (T.tree it.now) (T.is_of it.now) (T.ways it.now) (levels_of walk.old) }
+    requires levels { AreLevels (T.tree it.now) (T.is_of it.now) (T.ways it.now)
+        (levels_of walk.old) }
     requires root { IfSome walk.old.root (λ known. T.is_of it.now known (T.ways it.now).root) }
     requires room { vec_capacity walk.old.levels ≡ (T.ways it.now).height }
     ensures walk { IsWalk (T.tree it.now) (T.is_of it.now) (T.ways it.now) walk.new }
-    ensures owed { owed_by_walk (T.ways it.now) walk.new ≡ owed_later (T.ways it.now) (levels_of walk.old) }
+    ensures owed { owed_by_walk (T.ways it.now) walk.new ≡ owed_later (T.ways it.now)
+        (levels_of walk.old) }
 {
     let count = walk.levels.len();
     if count == 0 {
@@ -79,7 +88,8 @@ fn go_up<T: ClaimTree>(it: &T, walk: &mut Walk<T::Known>)
 /// What is known of the node that is owed next, where there is one.
 fn known_next<T: ClaimTree>(it: &T, walk: &Walk<T::Known>) -> Option<T::Known>
     requires walk { IsWalk (T.tree it.now) (T.is_of it.now) (T.ways it.now) walk.now }
-    ensures known { IfSome result (λ known. T.is_of it.now known (node_at (T.ways it.now) (levels_of walk.now))) }
+    ensures known { IfSome result (λ known. T.is_of it.now known
+        (node_at (T.ways it.now) (levels_of walk.now))) }
     ensures none { result ≡ None → owed_by_walk (T.ways it.now) walk.now ≡ [] }
 {
     let count = walk.levels.len();
@@ -116,7 +126,8 @@ pub(crate) fn is_next_true<T: ClaimTree>(
 /// The claim that is written of the node that is owed next, where there is one.
 pub(crate) fn own_next<T: ClaimTree>(it: &T, walk: &Walk<T::Known>) -> Option<T::Claim>
     requires walk { IsWalk (T.tree it.now) (T.is_of it.now) (T.ways it.now) walk.now }
-    ensures own { IfSome result (λ claim. claim ≡ T.own it.now (node_at (T.ways it.now) (levels_of walk.now))) }
+    ensures own { IfSome result (λ claim. claim
+        ≡ T.own it.now (node_at (T.ways it.now) (levels_of walk.now))) }
     ensures owes { IfSome result (λ _. OwesNext (T.ways it.now) walk.now) }
     ensures none { result ≡ None → owed_by_walk (T.ways it.now) walk.now ≡ [] }
 {
@@ -143,11 +154,13 @@ pub(crate) fn owes_some<T: ClaimTree>(it: &T, walk: &Walk<T::Known>) -> bool
     walk.root.is_some()
 }
 
-/// Goes on from the node that was owed next: where it is open, to those that are longer by a step first.
+/// Goes on from the node that was owed next: where it is open, to those that are longer by a step
+/// first.
 pub fn go_on<T: ClaimTree>(it: &T, walk: &mut Walk<T::Known>, is_open: bool)
     requires walk { IsWalk (T.tree it.now) (T.is_of it.now) (T.ways it.now) walk.old }
     requires owes { OwesNext (T.ways it.now) walk.old }
-    requires parent { CanGoOn (T.tree it.now) (node_at (T.ways it.now) (levels_of walk.old)) is_open }
+    requires parent { CanGoOn (T.tree it.now) (node_at (T.ways it.now) (levels_of walk.old))
+        is_open }
     ensures walk { IsWalk (T.tree it.now) (T.is_of it.now) (T.ways it.now) walk.new }
     ensures owed { owed_by_walk (T.ways it.now) walk.new
         ≡ owed_after (T.ways it.now) (levels_of walk.old) is_open }

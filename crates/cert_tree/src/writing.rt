@@ -20,7 +20,8 @@ pub fn room_for_walk<T: ClaimTree>(alloc: Global, it: &T) -> Result<Walk<T::Know
 /// Starts from the root in the room of a walk: all claims that are written are still to come.
 pub fn begin_again<T: ClaimTree>(it: &T, walk: &mut Walk<T::Known>)
     requires room { vec_capacity walk.old.levels ≡ (T.ways it.now).height }
-    requires told { AreTrueFrom (T.tree it.now) (T.own it.now) (T.ways it.now).height (T.root it.now) }
+    requires told { AreTrueFrom (T.tree it.now) (T.own it.now) (T.ways it.now).height
+        (T.root it.now) }
     ensures walk { IsWalk (T.tree it.now) (T.is_of it.now) (T.ways it.now) walk.new }
     ensures told { AreTold (T.tree it.now) (T.own it.now) (T.ways it.now) walk.new }
     ensures claims { claims_to_come (T.tree it.now) (T.own it.now) (T.ways it.now) walk.new
@@ -37,7 +38,8 @@ pub fn next_claim<T: ClaimTree>(it: &T, walk: &mut Walk<T::Known>) -> Option<T::
     ensures walk { IsWalk (T.tree it.now) (T.is_of it.now) (T.ways it.now) walk.new }
     ensures told { AreTold (T.tree it.now) (T.own it.now) (T.ways it.now) walk.new }
     ensures claims { claims_to_come (T.tree it.now) (T.own it.now) (T.ways it.now) walk.old
-        ≡ claims_with result (claims_to_come (T.tree it.now) (T.own it.now) (T.ways it.now) walk.new) }
+        ≡ claims_with result (claims_to_come (T.tree it.now) (T.own it.now) (T.ways it.now)
+        walk.new) }
 {
     let claim = own_next(it, walk)?;
     go_on(it, walk, it.is_open(claim));

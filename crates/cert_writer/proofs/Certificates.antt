@@ -1,5 +1,5 @@
--- A certificate is the text of its head and the lines that come at the beginning (`whole_text`), so its length is what both have together
--- (`whole_within`, `whole_too_long`).
+-- A certificate is the text of its head and the lines that come at the beginning (`whole_text`), so
+-- its length is what both have together (`whole_within`, `whole_too_long`).
 use Rattle.std.proofs.Common.{◌≡◌, ◌⊎◌, inl, inr, ℕ, ◌+◌, ◌<◌, ◌≤◌, Bool, true, false, List, ◌++◌, IsTrue, length, ap, sym, ◌∙◌, arith, length-append, true≢false}
 use Rattle.std.specs.Prelude.{◌↔◌}
 use Rattle.std.proofs.lemmas.Bool.{cases_lt}

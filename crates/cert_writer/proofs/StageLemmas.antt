@@ -1,5 +1,6 @@
--- The entries that are still to come where a writer stands (`from_place`, `from_empty`, `here_first`), what the tables say of them
--- (`start_is`, `rest_is`), and the lines that come next (`start_next`, `column_next`).
+-- The entries that are still to come where a writer stands (`from_place`, `from_empty`,
+-- `here_first`), what the tables say of them (`start_is`, `rest_is`), and the lines that come next
+-- (`start_next`, `column_next`).
 use Rattle.std.proofs.Common.{◌≡◌, ℕ, suc, ◌+◌, ◌-◌, ◌<◌, ◌≤◌, List, [], ◌∷◌, ◌++◌, Option, drop, length, sym, ap, ◌∙◌, subst, arith, append_assoc, length-append, add-one}
 use Rattle.std.specs.List.{flat_map}
 use Rattle.std.proofs.Math.Seq.{drop-cons}

@@ -1,4 +1,5 @@
--- What the head says of a setting with its penalty, or of none; and the certificate that is written for it.
+-- What the head says of a setting with its penalty, or of none; and the certificate that is written
+-- for it.
 use Rattle.std.specs.Prelude.{ℕ, ◌==◌, not, List, [], ◌∷◌, Option, Some, None, filter}
 use Rattle.std.specs.Borrow.{Bor}
 use Rattle.std.specs.List.{flat_map}
@@ -21,6 +22,7 @@ abbrev pub line_if_free : Exercise → Grid → ℕ → List ℕ
 line_if_free ex score v =
     flat_map (λ w. sing_text w score.columns) (filter (λ w. not (w == ex.cantus_voice)) (v ∷ []))
 
--- the certificate of a form, of what a search of a space found: of the best setting with its penalty, or that there is none
+-- the certificate of a form, of what a search of a space found: of the best setting with its
+-- penalty, or that there is none
 abbrev pub found_text : Task → Form → Option (Bor Grid × ℕ) → List ℕ
 found_text space form best = written_certificate space.exercise space.sheet form (head_with best)

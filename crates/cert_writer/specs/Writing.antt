@@ -16,8 +16,8 @@ use Rattle.cert_text.specs.declared.claim.Claim.{Claim}
 use Rattle.floor_tables.specs.Tables.{Task}
 use Rattle.fux_grid.specs.declared.cell.Cell.{Cell}
 
--- the exercise is within the limits and isn't mixed, since claims have no words for the rules of mixed ones; the tables are of it and
--- the sheet, whose weights are small, and the head holds
+-- the exercise is within the limits and isn't mixed, since claims have no words for the rules of
+-- mixed ones; the tables are of it and the sheet, whose weights are small, and the head holds
 pub record IsTask (t : Matter) (tables : Task) : Type 0 where
   pub case : IsCase t
   pub unmixed : t.exercise.mixed ≡ None

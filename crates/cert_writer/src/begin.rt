@@ -22,7 +22,8 @@ pub(crate) fn room_for_lines(
     tables: &Tables<'_>,
 ) -> Result<Lines, Memory>
     requires { IsTask (matter_of case.now) tables.now }
-    ensures { IfOk result (λ lines. vec_capacity lines.walk.levels ≡ columns_in case.now.exercise.now) }
+    ensures { IfOk result (λ lines. vec_capacity lines.walk.levels
+        ≡ columns_in case.now.exercise.now) }
 {
     let walk = room_for_walk(alloc, &TailedCase::new(*case, tables))?;
     Ok(Lines {

@@ -35,12 +35,14 @@ pub(crate) fn write_for_head<K: Sink>(
     head: &CertHead,
     sink: &mut K,
 ) -> Result<(), CertWrite>
-    requires task { IsTask (record { exercise = ex.now; sheet = sheet.now; head = head.now }) tables.now }
+    requires task { IsTask (record { exercise = ex.now; sheet = sheet.now; head = head.now })
+        tables.now }
     ensures ok { OnOk result (K.written sink.new
         ≡ appended (K.written sink.old) (written_certificate ex.now sheet.now form head.now)) }
 
     // A fault of writing is the sink's, and less than the certificate was written.
-    ensures cause { result ≡ Err CertWrite.WriteFault → Rose (K.faults sink.old) (K.faults sink.new) }
+    ensures cause { result ≡ Err CertWrite.WriteFault → Rose (K.faults sink.old)
+        (K.faults sink.new) }
     ensures short { FailsShort (K.written sink.old) (K.written sink.new)
         (written_certificate ex.now sheet.now form head.now) result }
 
@@ -51,7 +53,8 @@ pub(crate) fn write_for_head<K: Sink>(
     // Nothing is written of a certificate that is too long, nor where there is not enough memory.
     ensures too_long { result ≡ Err CertWrite.TooLong
         → 1073741824 < length (written_certificate ex.now sheet.now form head.now) }
-    ensures fits { 1073741824 < length (written_certificate ex.now sheet.now form head.now) → EndsUnwritten result }
+    ensures fits { 1073741824 < length (written_certificate ex.now sheet.now form head.now)
+        → EndsUnwritten result }
     ensures unwritten { EndsUnwritten result → K.written sink.new ≡ K.written sink.old }
     ensures faults { K.faults sink.old ≤ K.faults sink.new }
 {
@@ -77,9 +80,11 @@ pub(crate) fn write_for_head<K: Sink>(
     }
 }
 
-/// Writes the certificate of a form, of the best setting with its penalty, or the one that says that no setting is lawful, by the tables
-/// that the space has. The exercise isn't mixed: claims don't name the rules of mixed ones. Its length is counted before its first byte is written, and all memory is taken before that; then each prefix is
-/// judged once more, and each entry read from the tables again, so that a certificate of any length takes no more memory than a short one.
+/// Writes the certificate of a form, of the best setting with its penalty, or the one that says
+/// that no setting is lawful, by the tables that the space has. The exercise isn't mixed: claims
+/// don't name the rules of mixed ones. Its length is counted before its first byte is written, and
+/// all memory is taken before that; then each prefix is judged once more, and each entry read from
+/// the tables again, so that a certificate of any length takes no more memory than a short one.
 pub fn certify_form<K: Sink>(
     alloc: Global,
     space: &SpeciesSpace<'_>,
@@ -89,22 +94,27 @@ pub fn certify_form<K: Sink>(
 ) -> Result<(), CertWrite>
     requires unmixed { space.now.exercise.mixed ≡ None }
     requires holds { Holds space.now.exercise space.now.sheet (head_with best) }
-    ensures ok { OnOk result (K.written sink.new ≡ appended (K.written sink.old) (found_text space.now form best.entry)) }
+    ensures ok { OnOk result (K.written sink.new ≡ appended (K.written sink.old)
+        (found_text space.now form best.entry)) }
 
     // Each number that the second form states is below 2^32.
     ensures small { AllByRecursion IsPotential (entries_of space.now.exercise space.now.sheet) }
 
     // A fault of writing is the sink's, and less than the certificate was written.
-    ensures cause { result ≡ Err CertWrite.WriteFault → Rose (K.faults sink.old) (K.faults sink.new) }
-    ensures short { FailsShort (K.written sink.old) (K.written sink.new) (found_text space.now form best.entry) result }
+    ensures cause { result ≡ Err CertWrite.WriteFault → Rose (K.faults sink.old)
+        (K.faults sink.new) }
+    ensures short { FailsShort (K.written sink.old) (K.written sink.new)
+        (found_text space.now form best.entry) result }
 
     // No sink is blamed that promises to take the whole certificate.
     ensures taken { K.serves sink.old (length (found_text space.now form best.entry))
         → result ≢ Err CertWrite.WriteFault }
 
     // Nothing is written of a certificate that is too long, nor where there is not enough memory.
-    ensures too_long { result ≡ Err CertWrite.TooLong → 1073741824 < length (found_text space.now form best.entry) }
-    ensures fits { 1073741824 < length (found_text space.now form best.entry) → EndsUnwritten result }
+    ensures too_long { result ≡ Err CertWrite.TooLong → 1073741824
+        < length (found_text space.now form best.entry) }
+    ensures fits { 1073741824 < length (found_text space.now form best.entry)
+        → EndsUnwritten result }
     ensures unwritten { EndsUnwritten result → K.written sink.new ≡ K.written sink.old }
     ensures faults { K.faults sink.old ≤ K.faults sink.new }
 {

@@ -49,20 +49,21 @@ pub(crate) fn column_entry(
     requires place { place < columns_in case.now.exercise.now }
     requires within { number < length (menu_of case.now.exercise.now place) }
     ensures small { IsPotential result }
-    ensures value { result ≡ words.stating (rest_behind case.now.exercise.now case.now.sheet.now place
-        (menu_column case.now.exercise.now place number)) }
+    ensures value { result ≡ words.stating (rest_behind case.now.exercise.now case.now.sheet.now
+        place (menu_column case.now.exercise.now place number)) }
 {
     let _ = case;
     stating(tables.rest_of_number(place, number))
 }
 
-/// The stage of the first column of the places from this one on; behind the last of them the line `claims` comes.
+/// The stage of the first column of the places from this one on; behind the last of them the line
+/// `claims` comes.
 pub(crate) fn stage_from(case: &Case<'_>, tables: &Tables<'_>, from: usize) -> Stage
     requires task { IsTask (matter_of case.now) tables.now }
     requires place { from ≤ columns_in case.now.exercise.now }
     ensures stage { IsStage case.now.exercise.now result }
-    ensures left { entries_left (matter_of case.now) result
-        ≡ entries_from case.now.exercise.now case.now.sheet.now from (columns_in case.now.exercise.now - from) }
+    ensures left { entries_left (matter_of case.now) result ≡ entries_from case.now.exercise.now
+        case.now.sheet.now from (columns_in case.now.exercise.now - from) }
     ensures last { last_left result ≡ last_line }
 {
     let places = 8 * case.exercise.bars as usize;

@@ -26,7 +26,8 @@ fn put_free(
     requires voice { v < score.now.voices }
     requires whole { length score.now.columns % 8 ≡ 0 }
     requires some { 0 < length score.now.columns }
-    ensures { OnOk result (string_bytes out.new ≡ string_bytes out.old ++ line_if_free ex.now score.now v) }
+    ensures { OnOk result (string_bytes out.new ≡ string_bytes out.old ++ line_if_free ex.now
+        score.now v) }
 {
     if v == ex.cantus_voice {
         return Ok(());
@@ -41,7 +42,8 @@ fn put_lines(out: &mut String, alloc: Global, ex: &Exercise, score: &Score) -> R
     requires voices { score.now.voices ≡ ex.now.voices }
     requires whole { length score.now.columns % 8 ≡ 0 }
     requires some { 0 < length score.now.columns }
-    ensures { OnOk result (string_bytes out.new ≡ string_bytes out.old ++ sing_lines ex.now score.now.columns) }
+    ensures { OnOk result (string_bytes out.new ≡ string_bytes out.old ++ sing_lines ex.now
+        score.now.columns) }
 {
     for v in 0..ex.voices {
         put_free(out, alloc, ex, score, v)?;

@@ -1,5 +1,6 @@
-//! The writer of certificates: for each prefix that is owed it writes the first claim that is true of it, and before the claims, in the
-//! second form, the least sums over chains. It stands over the space of settings, whose tables it reads, and beside the checker.
+//! The writer of certificates: for each prefix that is owed it writes the first claim that is true
+//! of it, and before the claims, in the second form, the least sums over chains. It stands over the
+//! space of settings, whose tables it reads, and beside the checker.
 #![tactic(auto)]
 
 mod begin;

@@ -16,7 +16,8 @@ pub(crate) enum Stage {
     Claims,
 }
 
-/// The lines that are still to come: those of the stage, and of the claims of the prefixes that are owed.
+/// The lines that are still to come: those of the stage, and of the claims of the prefixes that are
+/// owed.
 #[derive(Drop)]
 pub(crate) struct Lines {
     pub stage: Stage,

@@ -21,7 +21,8 @@ fn next_claim(walk: &mut Walk<PrefixKnown>, case: &Case<'_>, tables: &Tables<'_>
     requires writing { IsWriting (matter_of case.now) walk.old }
     ensures writing { IsWriting (matter_of case.now) walk.new }
     ensures claim { IfSome result IsClaim }
-    ensures claims { to_come (matter_of case.now) walk.old ≡ claims_with result (to_come (matter_of case.now) walk.new) }
+    ensures claims { to_come (matter_of case.now) walk.old ≡ claims_with result
+        (to_come (matter_of case.now) walk.new) }
 {
     cert_tree::next_claim(&TailedCase::new(*case, tables), walk)
 }
@@ -42,7 +43,8 @@ fn next_stated(stage: &mut Stage, case: &Case<'_>, tables: &Tables<'_>) -> Optio
     requires stage { IsStage case.now.exercise.now stage.old }
     ensures stage { IsStage case.now.exercise.now stage.new }
     ensures some { IfSome result (λ line. 0 < length line.bytes) }
-    ensures text { stage_text (matter_of case.now) stage.old ≡ line_of result ++ stage_text (matter_of case.now) stage.new }
+    ensures text { stage_text (matter_of case.now) stage.old ≡ line_of result
+        ++ stage_text (matter_of case.now) stage.new }
     ensures none { result ≡ None → stage_text (matter_of case.now) stage.new ≡ [] }
 {
     match *stage {
@@ -72,7 +74,8 @@ pub(crate) fn next_line(
     requires lines { AreLines (matter_of case.now) lines.old }
     ensures lines { AreLines (matter_of case.now) lines.new }
     ensures some { IfSome result (λ line. 0 < length line.bytes) }
-    ensures text { lines_left (matter_of case.now) lines.old ≡ lines_with result (lines_left (matter_of case.now) lines.new) }
+    ensures text { lines_left (matter_of case.now) lines.old ≡ lines_with result
+        (lines_left (matter_of case.now) lines.new) }
 {
     if let Some(line) = next_stated(&mut lines.stage, case, tables) {
         return Some(line);

@@ -17,7 +17,8 @@ use fux_port::{Failed, Sink, put, write_all};
 /// The most bytes that a certificate may have.
 const MOST_BYTES: usize = 1_073_741_824;
 
-/// Whether the lines that are still to come have no more than so many bytes. It stops at the first line that is too much.
+/// Whether the lines that are still to come have no more than so many bytes. It stops at the first
+/// line that is too much.
 fn fit(lines: &mut Lines, case: &Case<'_>, tables: &Tables<'_>, room: usize) -> bool
     requires task { IsTask (matter_of case.now) tables.now }
     requires lines { AreLines (matter_of case.now) lines.old }
@@ -45,7 +46,8 @@ pub(crate) fn is_within(
     requires task { IsTask (matter_of case.now) tables.now }
     requires lines { AreLines (matter_of case.now) lines.old }
     ensures lines { AreLines (matter_of case.now) lines.new }
-    ensures fits { IsTrue result ↔ (size + length (lines_left (matter_of case.now) lines.old) ≤ 1073741824) }
+    ensures fits { IsTrue result ↔ (size + length (lines_left (matter_of case.now) lines.old)
+        ≤ 1073741824) }
 {
     size <= MOST_BYTES && fit(lines, case, tables, MOST_BYTES - size)
 }
@@ -59,12 +61,13 @@ pub(crate) fn write_lines<K: Sink>(
 ) -> Result<(), Failed>
     requires task { IsTask (matter_of case.now) tables.now }
     requires lines { AreLines (matter_of case.now) lines.old }
-    ensures ok { OnOk result
-        (K.written sink.new ≡ appended (K.written sink.old) (lines_left (matter_of case.now) lines.old)) }
+    ensures ok { OnOk result (K.written sink.new ≡ appended (K.written sink.old)
+        (lines_left (matter_of case.now) lines.old)) }
     ensures cause { OnErr result (Rose (K.faults sink.old) (K.faults sink.new)) }
-    ensures err { OnErr result
-        (StopsShort (K.written sink.old) (K.written sink.new) (lines_left (matter_of case.now) lines.old)) }
-    ensures taken { K.serves sink.old (length (lines_left (matter_of case.now) lines.old)) → IsOk result }
+    ensures err { OnErr result (StopsShort (K.written sink.old) (K.written sink.new)
+        (lines_left (matter_of case.now) lines.old)) }
+    ensures taken { K.serves sink.old (length (lines_left (matter_of case.now) lines.old))
+        → IsOk result }
     ensures faults { K.faults sink.old ≤ K.faults sink.new }
 {
     let mut waiting: ArrayString<4096> = ArrayString::new();
@@ -84,12 +87,13 @@ pub(crate) fn write_parts<K: Sink>(
 ) -> Result<(), Failed>
     requires task { IsTask (matter_of case.now) tables.now }
     requires lines { AreLines (matter_of case.now) lines.old }
-    ensures ok { OnOk result
-        (K.written sink.new ≡ appended (K.written sink.old) (text.now ++ lines_left (matter_of case.now) lines.old)) }
+    ensures ok { OnOk result (K.written sink.new ≡ appended (K.written sink.old)
+        (text.now ++ lines_left (matter_of case.now) lines.old)) }
     ensures cause { OnErr result (Rose (K.faults sink.old) (K.faults sink.new)) }
-    ensures err { OnErr result
-        (StopsShort (K.written sink.old) (K.written sink.new) (text.now ++ lines_left (matter_of case.now) lines.old)) }
-    ensures taken { K.serves sink.old (length (text.now ++ lines_left (matter_of case.now) lines.old)) → IsOk result }
+    ensures err { OnErr result (StopsShort (K.written sink.old) (K.written sink.new)
+        (text.now ++ lines_left (matter_of case.now) lines.old)) }
+    ensures taken { K.serves sink.old (length (text.now ++ lines_left (matter_of case.now) lines.old))
+        → IsOk result }
     ensures faults { K.faults sink.old ≤ K.faults sink.new }
 {
     write_all(sink, text.as_bytes())?;

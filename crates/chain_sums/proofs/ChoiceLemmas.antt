@@ -1,4 +1,5 @@
--- A column that is passed over has no lesser sum: `passed_over`, from what the moves of the voices cost.
+-- A column that is passed over has no lesser sum: `passed_over`, from what the moves of the voices
+-- cost.
 use Rattle.std.proofs.Common.{◌≡◌, ℕ, ◌+◌, ◌≤◌, if◌then◌else◌, List, Option, Some, None, refl, ap, sym, ◌∙◌, subst, arith}
 use Rattle.std.specs.Prelude.{IsSomeAnd, ◌↔◌}
 use Rattle.fux_grid.specs.declared.cell.Cell.{Cell}

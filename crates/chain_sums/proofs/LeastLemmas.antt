@@ -1,4 +1,5 @@
--- The least over a menu beside its row is the least sum over the chains that begin in the menu (`row_is_enough`).
+-- The least over a menu beside its row is the least sum over the chains that begin in the menu
+-- (`row_is_enough`).
 use Rattle.std.proofs.Common.{◌≡◌, ◌⊎◌, inl, inr, ℕ, suc, ◌+◌, ◌<◌, ◌≤◌, min, Bool, true, false, List, [], ◌∷◌, length, get_or, Option, Some, None, refl, ap, sym, ◌∙◌, subst, arith}
 use Rattle.std.specs.Prelude.{nat_le, IsSomeAnd, ◌↔◌}
 use Rattle.std.specs.List.{Contains}
@@ -44,7 +45,8 @@ plus_from a b u v x e f h = ap (λ s. plus s b) e ∙ ap (plus (Some u)) f ∙ a
 
 -- ---- one number more
 
--- the lesser of the least of some numbers and of one that may be another is the least of all of them
+-- the lesser of the least of some numbers and of one that may be another is the least of all of
+-- them
 pub least_more : (IsOne IsOther IsNext : ℕ → Type 0) (least other : Option ℕ) → IsLeastOf IsOne least
     → ((x : ℕ) → (other ≡ Some x) ↔ IsOther x)
     → ((x : ℕ) → IsOne x → IsNext x) → ((x : ℕ) → IsOther x → IsNext x) → ((x : ℕ) → IsNext x → IsOne x ⊎ IsOther x)

@@ -1,4 +1,5 @@
--- Menus whose numbers rise are searched by them (`found_by_number`), and with equal numbers they have equal columns (`same_columns`).
+-- Menus whose numbers rise are searched by them (`found_by_number`), and with equal numbers they
+-- have equal columns (`same_columns`).
 use Rattle.std.proofs.Common.{◌≡◌, ◌⊎◌, inl, inr, ℕ, ◌<◌, ◌≤◌, List, [], length, map, get_or, refl, ap, sym, ◌∙◌, arith}
 use Rattle.std.specs.List.{Contains}
 use Rattle.std.proofs.lemmas.Bool.{cases_order}

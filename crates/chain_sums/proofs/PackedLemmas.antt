@@ -1,4 +1,5 @@
--- The numbers of columns of one length go in reading order (`packed-order`), and columns with one number are equal (`packed-same`).
+-- The numbers of columns of one length go in reading order (`packed-order`), and columns with one
+-- number are equal (`packed-same`).
 use Rattle.std.proofs.Common.{◌≡◌, ◌⊎◌, inl, inr, ℕ, suc, ◌+◌, ◌*◌, ◌^◌, ◌<◌, ◌≤◌, List, [], ◌∷◌, length, ℤ, pos, negsuc, ◌≤ℤ◌, refl, ap, sym, ◌∙◌, arith}
 use Rattle.std.specs.Prelude.{unsigned_abs}
 use Rattle.std.specs.Cmp.{int_cmp_is, nat_cmp_is}

@@ -1,5 +1,6 @@
--- What is gathered from the pieces of a row has the entries of all its columns (`entries_gathered`): they are the row (`row_of_entries`), and
--- none is more than one cost above the next row (`small_of_entries`).
+-- What is gathered from the pieces of a row has the entries of all its columns
+-- (`entries_gathered`): they are the row (`row_of_entries`), and none is more than one cost above
+-- the next row (`small_of_entries`).
 use Rattle.std.proofs.Common.{◌≡◌, ℕ, zero, suc, ◌+◌, ◌/◌, ◌%◌, ◌<◌, min, List, [], ◌∷◌, ◌++◌, length, take, get_or, IfOk, Option, Some, None, Ok, Err, Vec, Global, ap, sym, subst, ◌∙◌, refl, arith}
 use Rattle.std.specs.List.{AllZip, flat_map}
 use Rattle.std.specs.Result.{IsOk}

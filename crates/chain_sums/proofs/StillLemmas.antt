@@ -1,6 +1,7 @@
--- In a menu of columns that hold all they sound at most one follows another: the one that goes on with all that the other sounds. So
--- its sum is the least (`one_held`), and where there is none there is no sum (`none_held`). Where it costs nothing, the place before
--- has the same row, if it has the same menu (`row_goes_on`).
+-- In a menu of columns that hold all they sound at most one follows another: the one that goes on
+-- with all that the other sounds. So its sum is the least (`one_held`), and where there is none
+-- there is no sum (`none_held`). Where it costs nothing, the place before has the same row, if it
+-- has the same menu (`row_goes_on`).
 use Rattle.std.proofs.Common.{◌≡◌, ℕ, zero, suc, ◌+◌, ◌<◌, ◌≤◌, ◌↔◌, true, List, [], ◌∷◌, length, map, get_or, Option, Some, None, refl, ap, sym, ◌∙◌, subst, arith}
 use Rattle.std.specs.Prelude.{IsSomeAnd}
 use Rattle.std.specs.List.{Contains, list_all}

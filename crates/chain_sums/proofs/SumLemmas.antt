@@ -1,5 +1,6 @@
--- The least sum as one number is the least over the chains themselves (`least_sum_is`), and there is one least of some numbers
--- (`least_is_one`), so each least over the chains is that number (`least_is_sum`).
+-- The least sum as one number is the least over the chains themselves (`least_sum_is`), and there
+-- is one least of some numbers (`least_is_one`), so each least over the chains is that number
+-- (`least_is_sum`).
 use Rattle.std.proofs.Common.{◌≡◌, ◌⊎◌, inl, inr, ℕ, zero, suc, ◌+◌, ◌-◌, ◌<◌, ◌≤◌, Bool, true, false, if◌then◌else◌, List, [], ◌∷◌, length, map, Option, Some, None, refl, ap, sym, ◌∙◌, subst, arith}
 use Rattle.std.specs.Prelude.{IsSomeAnd, ◌↔◌}
 use Rattle.std.specs.List.{Contains, list_all, range_with_len}
@@ -103,7 +104,8 @@ least_in_is f (c ∷ cols) =
         by (inl same) = inr (ap f (sym same) ∙ e)
         by (inr k) = inl (d, k, e)
 
--- two ways to say which numbers are meant, where each number of the second kind has one of the first that is no higher
+-- two ways to say which numbers are meant, where each number of the second kind has one of the
+-- first that is no higher
 least_of_same : (P Q : ℕ → Type 0) (least : Option ℕ) → IsLeastOf P least → ((x : ℕ) → P x → Q x)
     → ((x : ℕ) → Q x → (y : ℕ) × P y × (y ≤ x)) → IsLeastOf Q least
 least_of_same P Q least is there back =

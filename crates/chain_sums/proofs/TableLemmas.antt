@@ -1,6 +1,6 @@
--- Tables grow by a row at a time (`rows_more`), over menus that keep their numbers (`rows_kept`). A menu may be one that is
--- kept (`number_of_other`), and a row may be the one before over again (`row_of_other`), which may be known before it is computed
--- (`same_row`).
+-- Tables grow by a row at a time (`rows_more`), over menus that keep their numbers (`rows_kept`). A
+-- menu may be one that is kept (`number_of_other`), and a row may be the one before over again
+-- (`row_of_other`), which may be known before it is computed (`same_row`).
 use Rattle.std.proofs.Common.{◌≡◌, ◌⊎◌, inl, inr, ℕ, ◌+◌, ◌-◌, ◌*◌, ◌^◌, ◌<◌, ◌≤◌, List, [], ◌∷◌, ◌++◌, length, get_or, suc, Option, Some, None, refl, ap, sym, ◌∙◌, subst, arith}
 use Rattle.std.proofs.lemmas.List.{get_or_append_left, get_or_default, get_or_push, length_push}
 use Rattle.std.specs.Borrow.{Bor}

@@ -7,7 +7,8 @@ use Rattle.chain_sums.specs.declared.candidates.Candidate.{Candidate}
 use Rattle.chain_sums.specs.Chains.{Chains, IsKnown}
 use Rattle.chain_sums.specs.Rows.{IsSumAt, IsSumOf}
 
--- a column's sum reaches the bound of its candidate, whatever stands before it; there is no candidate only where there is no sum
+-- a column's sum reaches the bound of its candidate, whatever stands before it; there is no
+-- candidate only where there is no sum
 abbrev pub ReachesBound : Chains → ℕ → List Cell → Option ℕ → Option Candidate → Type 0
 ReachesBound c i d rest candidate =
     (before : Option (List Cell)) (x : ℕ) → IsSumOf c i before d rest x → IsSomeAnd candidate (λ e. e.bound ≤ x)
@@ -19,8 +20,8 @@ pub record HasBound (candidates : List Candidate) (k sum : ℕ) : Type 0 where
   pub one : Contains candidates (record { bound = bound; number = k; own = own })
   pub low : bound ≤ sum
 
--- the first so many columns of a place's menu that have a sum behind some column are among the candidates, each with what it costs at
--- least
+-- the first so many columns of a place's menu that have a sum behind some column are among the
+-- candidates, each with what it costs at least
 pub record AreCandidates (c : Chains) (own : List Cell → Option ℕ) (i : ℕ) (row : List (Option ℕ)) (count : ℕ)
     (candidates : List Candidate) : Type 0 where
   pub within : All (λ e. e.number < count) candidates

@@ -6,8 +6,9 @@ use Rattle.arrayvec.specs.ArrayVec.{ArrayVec}
 use Rattle.fux_grid.specs.declared.cell.Cell.{Cell}
 use Rattle.fux_grid.specs.Columns.{ColumnFollows}
 
--- what chains are made of: how many voices and places there are, which columns may stand at each place, and what a column costs
--- there behind another or behind none, where the two may be neighbors
+-- what chains are made of: how many voices and places there are, which columns may stand at each
+-- place, and what a column costs there behind another or behind none, where the two may be
+-- neighbors
 pub record Chains : Type 0 where
   pub voices : ℕ
   pub places : ℕ
@@ -19,7 +20,8 @@ abbrev pub cells_of : Option (List Cell) → List Cell
 cells_of None = []
 cells_of (Some col) = col
 
--- each column stands in the menu of its place, the first one of the list at the given place, and follows the one before it
+-- each column stands in the menu of its place, the first one of the list at the given place, and
+-- follows the one before it
 abbrev pub AreLinked : Chains → ℕ → Option (List Cell) → List (List Cell) → Type 0
 AreLinked c i before [] = ⊤
 AreLinked c i before (d ∷ chain) =
@@ -56,7 +58,8 @@ IsLeast c i before = IsLeastOf (HasSum c i before)
 abbrev pub given : Option (Bor (ArrayVec Cell)) → Option (List Cell)
 given prev = option_map (λ col. col.now.items) prev
 
--- a column costs at least so much at a place, whatever stands before it; there is no such cost only where it may stand behind no column
+-- a column costs at least so much at a place, whatever stands before it; there is no such cost only
+-- where it may stand behind no column
 abbrev pub IsLeastCost : Chains → ℕ → List Cell → Option ℕ → Type 0
 IsLeastCost c i d own = (before : Option (List Cell)) (x : ℕ) → c.cost i before d ≡ Some x → IsSomeAnd own (λ y. y ≤ x)
 

@@ -10,7 +10,8 @@ use Rattle.chain_sums.specs.Menus.{IsMenuOf}
 use Rattle.chain_sums.specs.Moves.{AreMovesOf}
 use Rattle.chain_sums.specs.Rows.{AllAtMost, IsRow}
 
--- a place's menu, the least sums behind its columns, those of them that may have a sum, by what it is at least, and the moves to them
+-- a place's menu, the least sums behind its columns, those of them that may have a sum, by what it
+-- is at least, and the moves to them
 pub record AreChoices (c : Chains) (own : List Cell → Option ℕ) (moved : ℕ → Cell → Cell → Option ℕ) (i : ℕ) (it : Choices) :
     Type 0 where
   pub menu : IsMenuOf (c.menu i) it.menu.now
@@ -21,6 +22,7 @@ pub record AreChoices (c : Chains) (own : List Cell → Option ℕ) (moved : ℕ
   pub moves : AreMovesOf moved (c.menu i) it.moves.now
   pub always : OnTrue it.always (AllFollowAll (c.menu i))
 
--- a cost with the least sum behind it is no less than a sum that is there; nothing is said where nothing is behind it
+-- a cost with the least sum behind it is no less than a sum that is there; nothing is said where
+-- nothing is behind it
 abbrev pub IsNoLess : Option ℕ → ℕ → Option ℕ → Type 0
 IsNoLess least cost rest = (x : ℕ) → rest ≡ Some x → IsSomeAnd least (λ y. y ≤ cost + x)

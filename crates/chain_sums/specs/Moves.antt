@@ -20,7 +20,8 @@ moves_sum moves before d =
     (plus (moves 1 (cell_in before 1) (cell_in d 1))
     (plus (moves 2 (cell_in before 2) (cell_in d 2)) (moves 3 (cell_in before 3) (cell_in d 3))))
 
--- a column behind another costs at least what it costs whatever stands before it, and what the moves of the voices cost
+-- a column behind another costs at least what it costs whatever stands before it, and what the
+-- moves of the voices cost
 abbrev pub AreLeastMoves : Chains → ℕ → (List Cell → Option ℕ) → (ℕ → Cell → Cell → Option ℕ) → Type 0
 AreLeastMoves c i own moves = (before d : List Cell) (x y : ℕ) → c.cost i (Some before) d ≡ Some x → own d ≡ Some y
     → IsSomeAnd (moves_sum moves before d) (λ z. y + z ≤ x)

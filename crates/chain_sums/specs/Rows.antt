@@ -20,7 +20,8 @@ pub record IsSumOf (c : Chains) (i : ℕ) (before : Option (List Cell)) (d : Lis
   pub is_rest : rest ≡ Some behind
   pub both : own + behind ≡ sum
 
--- the column of a menu with this number costs so much, together with the sum that a row has beside it
+-- the column of a menu with this number costs so much, together with the sum that a row has beside
+-- it
 abbrev pub IsSumAt : Chains → ℕ → Option (List Cell) → List (Option ℕ) → ℕ → ℕ → Type 0
 IsSumAt c i before row k = IsSumOf c i before (slice_index_or (c.menu i) k []) (slice_index_or row k None)
 

@@ -1,5 +1,5 @@
--- The least sum over the chains that go on behind a column, as one number: it is the least of what each column that may come next
--- costs together with the least sum behind it.
+-- The least sum over the chains that go on behind a column, as one number: it is the least of what
+-- each column that may come next costs together with the least sum behind it.
 use Rattle.std.specs.Prelude.{ℕ, zero, suc, Bool, List, [], ◌∷◌, length, map, min, Option, Some, None, if◌then◌else◌}
 use Rattle.std.specs.List.{list_all, range_with_len}
 use Rattle.fux_grid.specs.declared.cell.Cell.{Cell}
@@ -22,7 +22,8 @@ abbrev pub column_follows : List Cell → List Cell → Bool
 column_follows before next =
     list_all (λ v. cell_follows (cell_in before v) (cell_in next v)) (range_with_len 0 (length next))
 
--- what a column costs behind another or behind none, together with a sum behind it; none where it doesn't follow
+-- what a column costs behind another or behind none, together with a sum behind it; none where it
+-- doesn't follow
 abbrev pub sum_behind : Chains → ℕ → Option (List Cell) → List Cell → Option ℕ → Option ℕ
 sum_behind c i before d rest = if column_follows (cells_of before) d then plus (c.cost i before d) rest else None
 

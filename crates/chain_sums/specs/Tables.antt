@@ -78,7 +78,8 @@ abbrev pub IsNumbered : List Row → ℕ → Option (Bor Row) → Type 0
 IsNumbered rows number found =
     number < length rows → IsSomeAnd found (λ row. row.now ≡ slice_index_or rows number row.now)
 
--- whatever chains rows are of: this is the row of the first place that has one; none only where no place has one
+-- whatever chains rows are of: this is the row of the first place that has one; none only where no
+-- place has one
 abbrev pub IsLatestRow : Tables → Option (Bor Row) → Type 0
 IsLatestRow t found =
     (c : Chains) → AreRows c t.menus.items t.rows.items t.places.items → MatchOption found (length t.places.items ≡ 0)
@@ -118,7 +119,8 @@ pub record IsTooWide (c : Chains) (place : Place) (count : ℕ) : Type 0 where
   pub wide : 8192 < count
   pub first : (earlier : ℕ) → earlier < column → length (c.menu earlier) ≤ 8192
 
--- a fault about width tells the first menu that is too wide; want of memory comes only where there is none
+-- a fault about width tells the first menu that is too wide; want of memory comes only where there
+-- is none
 abbrev pub TellsWidth : Chains → TableFault → Type 0
 TellsWidth c (TooWide place count) = IsTooWide c place count
 TellsWidth c Memory = AreNarrow c

@@ -1,4 +1,5 @@
-//! The columns of a menu by what they cost at least with the least sum behind them, so that few of them are tried.
+//! The columns of a menu by what they cost at least with the least sum behind them, so that few of
+//! them are tried.
 
 ghost use Rattle.std.specs.Prelude.{◌≡◌, ◌≤◌, ◌<◌, ◌^◌, length, IfOk, IfSome};
 ghost use Rattle.std.specs.List.{Contains};
@@ -25,7 +26,8 @@ pub(crate) struct Candidate {
     pub(crate) own: u64,
 }
 
-/// The candidate for the column of a number. None only where the column has no sum, whatever stands before it.
+/// The candidate for the column of a number. None only where the column has no sum, whatever stands
+/// before it.
 fn candidate_of<L: Links>(
     links: &L,
     i: usize,
@@ -57,7 +59,8 @@ fn some_candidates<L: Links>(
     requires menu { IsMenuOf ((L.chains links.now).menu i) menu.now }
     requires beside { length row.now ≡ length ((L.chains links.now).menu i) }
     requires small { AllAtMost (2 ^ 62) row.now }
-    ensures { IfOk result (λ found. AreAllCandidates (L.chains links.now) (L.own links.now i) i row.now found.items) }
+    ensures { IfOk result (λ found. AreAllCandidates (L.chains links.now) (L.own links.now i) i
+        row.now found.items) }
 {
     let mut found = Vec::with_capacity(alloc, menu.len())?;
     for k in 0..menu.len() {
@@ -81,7 +84,8 @@ pub(crate) fn candidates<L: Links>(
     requires menu { IsMenuOf ((L.chains links.now).menu i) menu.now }
     requires beside { length row.now ≡ length ((L.chains links.now).menu i) }
     requires small { AllAtMost (2 ^ 62) row.now }
-    ensures all { IfOk result (λ found. AreAllCandidates (L.chains links.now) (L.own links.now i) i row.now found.items) }
+    ensures all { IfOk result (λ found. AreAllCandidates (L.chains links.now) (L.own links.now i) i
+        row.now found.items) }
     ensures order { IfOk result (λ found. GoByBounds found.items) }
 {
     let mut found = some_candidates(alloc, links, i, menu, row)?;

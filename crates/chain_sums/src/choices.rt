@@ -64,8 +64,8 @@ fn may_follow(always: bool, prev: &Column, column: &Column) -> bool
 }
 
 impl<'a> Choices<'a> {
-    /// The lesser of a sum and of a candidate's behind a column. What the moves of the voices cost is asked first: mostly it tells
-    /// that the candidate has no sum there, or no lesser one.
+    /// The lesser of a sum and of a candidate's behind a column. What the moves of the voices cost
+    /// is asked first: mostly it tells that the candidate has no sum there, or no lesser one.
     #[inline(always)]
     fn lesser_with<L: Links>(
         &self,
@@ -77,16 +77,18 @@ impl<'a> Choices<'a> {
         least: Option<u64>,
     ) -> Option<u64>
         requires place { i < (L.chains links.now).places }
-        requires choices { AreChoices (L.chains links.now) (L.own links.now i) (L.moves links.now i) i self.now }
-        requires rows { AreRowsFrom (L.moves links.now i) self.now.moves.now.choir prev.now.items rows.now }
+        requires choices { AreChoices (L.chains links.now) (L.own links.now i) (L.moves links.now i)
+            i self.now }
+        requires rows { AreRowsFrom (L.moves links.now i) self.now.moves.now.choir prev.now.items
+            rows.now }
         requires number { candidate.now.number < length ((L.chains links.now).menu i) }
-        requires known { IsKnown (L.own links.now i
-            (slice_index_or ((L.chains links.now).menu i) candidate.now.number [])) candidate.now.own }
-        ensures value { result ≡ sums.lesser least (sum_behind (L.chains links.now) i (Some prev.now.items)
-            (slice_index_or ((L.chains links.now).menu i) candidate.now.number [])
-            (slice_index_or self.now.sums.now candidate.now.number None)) }
-        ensures bound { (most : ℕ) → AllAtMost most self.now.sums.now → IsAtMost (most + 2 ^ 53) least
-            → IsAtMost (most + 2 ^ 53) result }
+        requires known { IsKnown (L.own links.now i (slice_index_or ((L.chains links.now).menu i)
+            candidate.now.number [])) candidate.now.own }
+        ensures value { result ≡ sums.lesser least (sum_behind (L.chains links.now) i
+            (Some prev.now.items) (slice_index_or ((L.chains links.now).menu i) candidate.now.number
+            []) (slice_index_or self.now.sums.now candidate.now.number None)) }
+        ensures bound { (most : ℕ) → AllAtMost most self.now.sums.now → IsAtMost (most + 2 ^ 53)
+            least → IsAtMost (most + 2 ^ 53) result }
     {
         let k = candidate.number;
         let next = self.menu.column(k);
@@ -104,11 +106,12 @@ impl<'a> Choices<'a> {
         lesser(least, plus(cost, rest))
     }
 
-    /// The least sum over the chains that begin at the place, behind a column: the candidates are tried until no later one can
-    /// have a lesser sum.
+    /// The least sum over the chains that begin at the place, behind a column: the candidates are
+    /// tried until no later one can have a lesser sum.
     pub(crate) fn least_behind<L: Links>(&self, links: &L, i: usize, prev: &Column) -> Option<u64>
         requires place { i < (L.chains links.now).places }
-        requires choices { AreChoices (L.chains links.now) (L.own links.now i) (L.moves links.now i) i self.now }
+        requires choices { AreChoices (L.chains links.now) (L.own links.now i) (L.moves links.now i)
+            i self.now }
         ensures least { IsLeast (L.chains links.now) i (Some prev.now.items) result }
         ensures bound { IsOneCostAboveRow self.now.sums.now result }
     {

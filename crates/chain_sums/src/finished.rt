@@ -18,8 +18,8 @@ pub(crate) enum Finished<'a> {
 }
 
 impl<'a> Finished<'a> {
-    /// The least sum over the chains that begin at the place, behind a column. The one that follows is first looked for under a
-    /// number that is likely to be its own.
+    /// The least sum over the chains that begin at the place, behind a column. The one that follows
+    /// is first looked for under a number that is likely to be its own.
     #[inline(always)]
     pub(crate) fn least_behind<L: Links>(
         &self,
@@ -30,7 +30,8 @@ impl<'a> Finished<'a> {
     ) -> Option<u64>
         requires place { i < (L.chains links.now).places }
         requires full { length prev.now.items ≡ (L.chains links.now).voices }
-        requires finished { IsFinished (L.chains links.now) (L.own links.now i) (L.moves links.now i) i self.now }
+        requires finished { IsFinished (L.chains links.now) (L.own links.now i)
+            (L.moves links.now i) i self.now }
         ensures { IsEntry (L.chains links.now) i (sums_in self.now) prev.now.items result }
     {
         match self {

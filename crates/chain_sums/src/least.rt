@@ -37,8 +37,8 @@ pub(crate) fn plus(a: Option<u64>, b: Option<u64>) -> Option<u64>
     }
 }
 
-/// What a column costs behind another, together with the least sum behind it. None where it doesn't follow, where the two
-/// may not be neighbors, and where there is no such sum.
+/// What a column costs behind another, together with the least sum behind it. None where it doesn't
+/// follow, where the two may not be neighbors, and where there is no such sum.
 pub(crate) fn sum_of<L: Links>(
     links: &L,
     i: usize,
@@ -60,8 +60,9 @@ pub(crate) fn sum_of<L: Links>(
     plus(own, rest)
 }
 
-/// The least sum over the chains that begin at a place, behind a column or behind none, from the menu of the place and the
-/// row beside it: of what each column of the menu costs there, and the least sum behind that one.
+/// The least sum over the chains that begin at a place, behind a column or behind none, from the
+/// menu of the place and the row beside it: of what each column of the menu costs there, and the
+/// least sum behind that one.
 pub(crate) fn least_behind<L: Links>(
     links: &L,
     i: usize,

@@ -14,7 +14,8 @@ use fux_grid::{Cell, Column, VoiceCells};
 use fux_pitch::Memory;
 use std::alloc::Global;
 
-/// Columns that may stand side by side: the menu of each place, and what a column costs there behind another.
+/// Columns that may stand side by side: the menu of each place, and what a column costs there
+/// behind another.
 pub trait Links {
     ghost chains: { Self → Chains };
 
@@ -24,7 +25,8 @@ pub trait Links {
     /// What a voice's move from one cell to another costs at a place.
     ghost moves: { Self → ℕ → ℕ → ACell → ACell → Option ℕ };
 
-    /// Behind another a column costs at least what it costs by itself and what the moves of the voices cost.
+    /// Behind another a column costs at least what it costs by itself and what the moves of the
+    /// voices cost.
     ghost least_moves: { (it : Self) (i : ℕ) → AreLeastMoves (chains it) i (own it i) (moves it i) };
 
     /// How many places there are.
@@ -49,7 +51,8 @@ pub trait Links {
         ensures order { IfOk result (λ menu. IsAscending (items_of menu.items)) }
         ensures full { IfOk result (λ menu. AreFull (chains self.now).voices (items_of menu.items)) };
 
-    /// The cells that a voice may have at a place. A cell that isn't among them changes no sum: its moves are found one by one.
+    /// The cells that a voice may have at a place. A cell that isn't among them changes no sum: its
+    /// moves are found one by one.
     fn cells(&self, i: usize, v: usize) -> VoiceCells
         requires place { i < (chains self.now).places }
         requires voice { v < 4 };
@@ -60,21 +63,22 @@ pub trait Links {
         requires second { j < (chains self.now).places }
         ensures { OnTrue result ((chains self.now).menu i ≡ (chains self.now).menu j) };
 
-    /// Whether a column that holds all it sounds is known to cost nothing at a place, behind any column.
+    /// Whether a column that holds all it sounds is known to cost nothing at a place, behind any
+    /// column.
     fn holds_freely(&self, i: usize) -> bool
         requires { i < (chains self.now).places }
         ensures { OnTrue result (HoldingIsFree (chains self.now) i) };
 
-    /// What `next` costs at a place, behind `prev`, which is lacking at the first place. None where the two may not be
-    /// neighbors. It is asked of columns that follow one another.
+    /// What `next` costs at a place, behind `prev`, which is lacking at the first place. None where
+    /// the two may not be neighbors. It is asked of columns that follow one another.
     fn cost(&self, i: usize, prev: Option<&Column>, next: &Column) -> Option<u64>
         requires place { i < (chains self.now).places }
         requires choice { Contains ((chains self.now).menu i) next.now.items }
         ensures value { result ≡ (chains self.now).cost i (given prev.entry) next.now.items }
         ensures bound { IfSome result (λ cost. cost ≤ 2 ^ 53) };
 
-    /// What `next` costs at a place at least, whatever stands before it. None only where it may stand behind no column. A
-    /// higher answer spares more work, and changes no sum.
+    /// What `next` costs at a place at least, whatever stands before it. None only where it may
+    /// stand behind no column. A higher answer spares more work, and changes no sum.
     fn own_cost(&self, i: usize, next: &Column) -> Option<u64>
         requires place { i < (chains self.now).places }
         requires choice { Contains ((chains self.now).menu i) next.now.items }
@@ -82,16 +86,16 @@ pub trait Links {
         ensures least { IsLeastCost (chains self.now) i next.now.items result }
         ensures bound { IfSome result (λ cost. cost ≤ 2 ^ 52) };
 
-    /// What the move of a voice from one cell to another costs at a place. None only where no column with such a cell may be the
-    /// neighbor of one with the other.
+    /// What the move of a voice from one cell to another costs at a place. None only where no
+    /// column with such a cell may be the neighbor of one with the other.
     fn move_cost(&self, i: usize, v: usize, before: Cell, next: Cell) -> Option<u64>
         requires place { i < (chains self.now).places }
         requires voice { v < 4 }
         ensures value { result ≡ moves self.now i v before next }
         ensures bound { IfSome result (λ cost. cost ≤ 2 ^ 50) };
 
-    /// The same as `cost`, where it is known what `next` costs at least, and what the moves of the voices cost together: that needn't be
-    /// found again.
+    /// The same as `cost`, where it is known what `next` costs at least, and what the moves of the
+    /// voices cost together: that needn't be found again.
     fn cost_from(
         &self,
         i: usize,
@@ -103,7 +107,8 @@ pub trait Links {
         requires place { i < (chains self.now).places }
         requires choice { Contains ((chains self.now).menu i) next.now.items }
         requires known { IsKnown (own self.now i next.now.items) known }
-        requires moved { IsKnown (moves_sum (moves self.now i) prev.now.items next.now.items) moved }
+        requires moved { IsKnown (moves_sum (moves self.now i) prev.now.items next.now.items)
+            moved }
         ensures value { result ≡ (chains self.now).cost i (Some prev.now.items) next.now.items }
         ensures bound { IfSome result (λ cost. cost ≤ 2 ^ 53) };
 }

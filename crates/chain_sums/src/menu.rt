@@ -76,8 +76,8 @@ impl Menu {
         self.numbers.as_slice() == other.numbers.as_slice()
     }
 
-    /// Where the column of a number stands; none only where no column has it. One place where it may well stand is looked at
-    /// first.
+    /// Where the column of a number stands; none only where no column has it. One place where it
+    /// may well stand is looked at first.
     fn place_of_number(&self, number: u64, likely: usize) -> Option<usize>
         ensures { (d : List ACell) → specs.packed d ≡ number → FindsColumn self.now d result }
     {
@@ -97,8 +97,8 @@ impl Menu {
         self.place_of_number(packed(column.as_slice()), 0)
     }
 
-    /// Where the column stands that goes on with all that a column sounds, at the likely place or at another; none only where the
-    /// menu hasn't got it.
+    /// Where the column stands that goes on with all that a column sounds, at the likely place or
+    /// at another; none only where the menu hasn't got it.
     pub(crate) fn place_of_held(&self, column: &Column, likely: usize) -> Option<usize>
         ensures { FindsColumn self.now (map held column.now.items) result }
     {

@@ -1,5 +1,5 @@
-//! What the moves of single voices cost, from each cell of one menu to each cell of the next: there are few, and most columns that may
-//! not be neighbors may not for a move of one voice.
+//! What the moves of single voices cost, from each cell of one menu to each cell of the next: there
+//! are few, and most columns that may not be neighbors may not for a move of one voice.
 
 ghost use Rattle.std.specs.Prelude.{◌≡◌, ◌<◌, ◌≤◌, ◌^◌, ℕ, Option, length, slice_index_or, IfOk, IfSome};
 ghost use Rattle.fux_grid.specs.declared.cell.Cell.{Cell as ACell};
@@ -129,9 +129,11 @@ impl VoiceMoves {
         number_in(&self.to, cell) as u8
     }
 
-    /// What the moves from a cell cost; nothing is told of a cell that isn't among those of the table.
+    /// What the moves from a cell cost; nothing is told of a cell that isn't among those of the
+    /// table.
     fn row(&self, cell: Cell) -> VoiceRow<'_>
-        ensures { (moves : ACell → ACell → Option ℕ) → AreVoiceMoves moves self.now → IsRowFrom moves self.now cell result }
+        ensures { (moves : ACell → ACell → Option ℕ) → AreVoiceMoves moves self.now
+            → IsRowFrom moves self.now cell result }
     {
         for k in 0..self.from.len() {
             if self.from[k].cell == cell {
@@ -149,7 +151,8 @@ impl VoiceMoves {
 }
 
 impl<'a> VoiceRow<'a> {
-    /// What the voice's move from a column to another costs; where the row doesn't tell, it's found.
+    /// What the voice's move from a column to another costs; where the row doesn't tell, it's
+    /// found.
     #[inline(always)]
     fn cost<L: Links>(
         &self,
@@ -162,10 +165,12 @@ impl<'a> VoiceRow<'a> {
     ) -> Option<u64>
         requires place { i < (L.chains links.now).places }
         requires voice { v < 4 }
-        requires row { AreMovesTo (L.moves links.now i v (cell_in before.now.items v)) self.now.moves.now.to.items
-            self.now.costs.now }
-        requires number { IsNumberAmong self.now.moves.now.to.items (cell_in next.now.items v) number }
-        ensures value { result ≡ L.moves links.now i v (cell_in before.now.items v) (cell_in next.now.items v) }
+        requires row { AreMovesTo (L.moves links.now i v (cell_in before.now.items v))
+            self.now.moves.now.to.items self.now.costs.now }
+        requires number { IsNumberAmong self.now.moves.now.to.items (cell_in next.now.items v)
+            number }
+        ensures value { result ≡ L.moves links.now i v (cell_in before.now.items v)
+            (cell_in next.now.items v) }
         ensures bound { IfSome result (λ cost. cost ≤ 2 ^ 50) }
     {
         let k = number as usize;
@@ -205,8 +210,10 @@ impl Choir {
 
     /// The numbers of the cells of each column of a menu.
     fn numbers_of(&self, alloc: Global, menu: &Menu) -> Result<Vec<CellNumbers>, Memory>
-        ensures numbers { IfOk result (λ numbers. AreNumbersAt self.now (columns_of menu.now) numbers.items) }
-        ensures beside { IfOk result (λ numbers. length numbers.items ≡ length menu.now.columns.items) }
+        ensures numbers { IfOk result (λ numbers. AreNumbersAt self.now (columns_of menu.now)
+            numbers.items) }
+        ensures beside { IfOk result (λ numbers. length numbers.items
+            ≡ length menu.now.columns.items) }
     {
         let mut numbers = Vec::with_capacity(alloc, menu.len())?;
         for k in 0..menu.len() {
@@ -248,7 +255,8 @@ impl Moves {
 }
 
 impl<'a> ChoirRows<'a> {
-    /// What the moves of all voices cost together, from the column whose rows these are to one that has these numbers.
+    /// What the moves of all voices cost together, from the column whose rows these are to one that
+    /// has these numbers.
     #[inline(always)]
     pub(crate) fn sum<L: Links>(
         &self,
@@ -260,7 +268,8 @@ impl<'a> ChoirRows<'a> {
         next: &Column,
     ) -> Option<u64>
         requires place { i < (L.chains links.now).places }
-        requires rows { AreRowsFrom (L.moves links.now i) moves.now.choir before.now.items self.now }
+        requires rows { AreRowsFrom (L.moves links.now i) moves.now.choir before.now.items
+            self.now }
         requires within { k < length moves.now.numbers.items }
         requires numbers { (d : Numbers) → AreNumbersOf moves.now.choir next.now.items
             (slice_index_or moves.now.numbers.items k d) }

@@ -42,8 +42,10 @@ fn work_piece<L: Links, G: Gate>(
     requires place { i + 1 < (L.chains links.now).places }
     requires short { i < 192 }
     requires full { AreFull (L.chains links.now).voices (items_of columns.now) }
-    requires finished { IsFinished (L.chains links.now) (L.own links.now (i + 1)) (L.moves links.now (i + 1)) (i + 1) finished.now }
-    ensures { IfOk result (λ part. AreEntries (L.chains links.now) (i + 1) (sums_in finished.now) columns.now part.items) }
+    requires finished { IsFinished (L.chains links.now) (L.own links.now (i + 1))
+        (L.moves links.now (i + 1)) (i + 1) finished.now }
+    ensures { IfOk result (λ part. AreEntries (L.chains links.now) (i + 1) (sums_in finished.now)
+        columns.now part.items) }
 {
     gate.enter(i, start / piece);
     let mut part = Vec::with_capacity(alloc, columns.len())?;
@@ -69,16 +71,20 @@ fn pieces_of<R: Threads + Sync, L: Links + Sync, G: Gate>(
     requires place { i + 1 < (L.chains links.now).places }
     requires short { i < 192 }
     requires full { AreFull (L.chains links.now).voices (items_of columns.now) }
-    requires finished { IsFinished (L.chains links.now) (L.own links.now (i + 1)) (L.moves links.now (i + 1)) (i + 1) finished.now }
-    ensures count { IfOk result (λ parts. length parts.items ≡ length columns.now / piece + min 1 (length columns.now % piece)) }
-    ensures each { IfOk result (λ parts. ArePieces (L.chains links.now) (i + 1) (sums_in finished.now) piece columns.now parts.items) }
+    requires finished { IsFinished (L.chains links.now) (L.own links.now (i + 1))
+        (L.moves links.now (i + 1)) (i + 1) finished.now }
+    ensures count { IfOk result (λ parts. length parts.items ≡ length columns.now / piece
+        + min 1 (length columns.now % piece)) }
+    ensures each { IfOk result (λ parts. ArePieces (L.chains links.now) (i + 1)
+        (sums_in finished.now) piece columns.now parts.items) }
 {
     let work = |start: usize, chunk: &[Column]| -> Result<Vec<Option<u64>>, Memory>
         requires { (0 < piece) × (i + 1 < (L.chains links.now).places) × (i < 192)
             × AreFull (L.chains links.now).voices (items_of chunk.now)
-            × IsFinished (L.chains links.now) (L.own links.now (i + 1)) (L.moves links.now (i + 1)) (i + 1) finished.now }
-        ensures { IfOk result (λ part. AreEntries (L.chains links.entry.now) (i + 1) (sums_in finished.entry.now)
-            chunk.entry.now part.items) }
+            × IsFinished (L.chains links.now) (L.own links.now (i + 1)) (L.moves links.now (i + 1))
+            (i + 1) finished.now }
+        ensures { IfOk result (λ part. AreEntries (L.chains links.entry.now) (i + 1)
+            (sums_in finished.entry.now) chunk.entry.now part.items) }
     { work_piece(alloc, links, gate, i, piece, start, chunk, finished) };
     Ok(thread::map_chunks(rt, alloc, columns, piece, &work)?)
 }
@@ -114,7 +120,8 @@ pub(crate) fn row_by_pieces<R: Threads + Sync, L: Links + Sync, G: Gate>(
     requires short { i < 192 }
     requires menu { IsMenuOf ((L.chains links.now).menu i) menu.now }
     requires full { AreFull (L.chains links.now).voices ((L.chains links.now).menu i) }
-    requires finished { IsFinished (L.chains links.now) (L.own links.now (i + 1)) (L.moves links.now (i + 1)) (i + 1) finished.now }
+    requires finished { IsFinished (L.chains links.now) (L.own links.now (i + 1))
+        (L.moves links.now (i + 1)) (i + 1) finished.now }
     ensures row { IfOk result (λ row. IsRow (L.chains links.now) i row.items) }
     ensures small { IfOk result (λ row. AreOneCostAbove (sums_in finished.now) row.items) }
 {

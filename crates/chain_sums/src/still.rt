@@ -1,4 +1,5 @@
-//! Menus whose columns hold all they sound: at most one column of such a menu follows another, and it is found by its number.
+//! Menus whose columns hold all they sound: at most one column of such a menu follows another, and
+//! it is found by its number.
 
 ghost use Rattle.std.specs.Prelude.{◌≡◌, ◌<◌, ◌^◌, Some, length};
 ghost use Rattle.std.specs.Bool.{OnTrue};
@@ -47,8 +48,9 @@ pub(crate) fn is_still(menu: &Menu) -> bool
     true
 }
 
-/// The least sum over the chains that begin at a place, behind a column, where each column of the place's menu holds all it sounds.
-/// The one that follows is looked for first under a number that is likely to be its own, as that of `prev` in the menu before.
+/// The least sum over the chains that begin at a place, behind a column, where each column of the
+/// place's menu holds all it sounds. The one that follows is looked for first under a number that
+/// is likely to be its own, as that of `prev` in the menu before.
 pub(crate) fn least_of_held<L: Links>(
     links: &L,
     i: usize,

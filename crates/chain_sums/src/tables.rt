@@ -42,7 +42,8 @@ struct Row {
     sums: Vec<Option<u64>>,
 }
 
-/// For each place and each column of its menu the least sum over the chains behind it, and the least sum over all chains.
+/// For each place and each column of its menu the least sum over the chains behind it, and the
+/// least sum over all chains.
 #[derive(Drop)]
 pub struct Tables {
     menus: Vec<Menu>,
@@ -69,7 +70,8 @@ fn check_widths<L: Links>(links: &L) -> Result<(), TableFault>
     Ok(())
 }
 
-/// The least sums behind the columns of a menu, that of place `i`, from the menu and the sums of the next place.
+/// The least sums behind the columns of a menu, that of place `i`, from the menu and the sums of
+/// the next place.
 fn sums_before<R: Threads + Sync, L: Links + Sync, G: Gate>(
     cut: &Cut<'_, R, G>,
     alloc: Global,
@@ -140,9 +142,11 @@ fn sums_of<R: Threads + Sync, L: Links + Sync, G: Gate>(
     requires short { (L.chains links.now).places ≤ 192 }
     requires menu { IsMenuOf ((L.chains links.now).menu i) menu.now }
     requires full { AreFull (L.chains links.now).voices ((L.chains links.now).menu i) }
-    requires rows { AreRows (L.chains links.now) tables.now.menus.items tables.now.rows.items tables.now.places.items }
+    requires rows { AreRows (L.chains links.now) tables.now.menus.items tables.now.rows.items
+        tables.now.places.items }
     ensures row { IfOk result (λ row. IsRow (L.chains links.now) i row.items) }
-    ensures small { IfOk result (λ row. AllAtMost (length tables.now.places.items * 2 ^ 53) row.items) }
+    ensures small { IfOk result (λ row. AllAtMost (length tables.now.places.items * 2 ^ 53)
+        row.items) }
 {
     let Some(next) = tables.latest() else {
         return last_row(alloc, links, i, menu);
@@ -158,7 +162,8 @@ fn sums_of<R: Threads + Sync, L: Links + Sync, G: Gate>(
     )
 }
 
-/// Whether place `i` is known to have the menu of the next place, where each column holds all it sounds, and costs nothing.
+/// Whether place `i` is known to have the menu of the next place, where each column holds all it
+/// sounds, and costs nothing.
 fn goes_on_freely<L: Links>(links: &L, i: usize, next: &Menu) -> bool
     requires place { i + 1 < (L.chains links.now).places }
     requires short { i < 192 }
@@ -171,7 +176,8 @@ fn goes_on_freely<L: Links>(links: &L, i: usize, next: &Menu) -> bool
 /// The number of a menu that has the same columns as this one.
 fn number_of_same(menus: &[Menu], menu: &Menu) -> Option<usize>
     ensures within { IfSome result (λ number. number < length menus.now) }
-    ensures same { IfSome result (λ number. HaveSameColumns (slice_index_or menus.now number menu.now) menu.now) }
+    ensures same { IfSome result (λ number. HaveSameColumns (slice_index_or menus.now number menu.now)
+        menu.now) }
 {
     for number in 0..menus.len() {
         if menus[number].has_columns_of(menu) {
@@ -181,7 +187,8 @@ fn number_of_same(menus: &[Menu], menu: &Menu) -> Option<usize>
     None
 }
 
-/// The number of a menu's columns. A menu is put behind the others only where none of them has the same ones.
+/// The number of a menu's columns. A menu is put behind the others only where none of them has the
+/// same ones.
 fn number_of(menus: &mut Vec<Menu>, menu: Menu) -> Result<usize, Memory>
     ensures { IfOk result (IsNumberFor menus.old.items menus.new.items menu) }
 {
@@ -247,11 +254,13 @@ impl Tables {
         self.numbered(self.places[self.places.len() - 1 - i])
     }
 
-    /// The number of the menu of place `i`, where the place after has a row and is known to have the same menu.
+    /// The number of the menu of place `i`, where the place after has a row and is known to have
+    /// the same menu.
     fn number_of_next<L: Links>(&self, links: &L, i: usize) -> Option<usize>
         requires place { i + 1 + length self.now.places.items ≡ (L.chains links.now).places }
         requires short { (L.chains links.now).places ≤ 192 }
-        requires rows { AreRows (L.chains links.now) self.now.menus.items self.now.rows.items self.now.places.items }
+        requires rows { AreRows (L.chains links.now) self.now.menus.items self.now.rows.items
+            self.now.places.items }
         ensures { IfSome result (IsMenuAt (L.chains links.now) i self.now.menus.items) }
     {
         let next = self.latest()?;
@@ -271,9 +280,10 @@ impl Tables {
     ) -> Result<usize, Memory>
         requires place { i + 1 + length self.old.places.items ≡ (L.chains links.now).places }
         requires short { (L.chains links.now).places ≤ 192 }
-        requires rows { AreRows (L.chains links.now) self.old.menus.items self.old.rows.items self.old.places.items }
-        ensures rows { OnOk result
-            (AreRows (L.chains links.now) self.new.menus.items self.new.rows.items self.new.places.items) }
+        requires rows { AreRows (L.chains links.now) self.old.menus.items self.old.rows.items
+            self.old.places.items }
+        ensures rows { OnOk result (AreRows (L.chains links.now) self.new.menus.items
+            self.new.rows.items self.new.places.items) }
         ensures places { self.new.places.items ≡ self.old.places.items }
         ensures number { IfOk result (IsMenuAt (L.chains links.now) i self.new.menus.items) }
     {
@@ -295,10 +305,12 @@ impl Tables {
     ) -> Result<(), Memory>
         requires place { i + 1 + length self.old.places.items ≡ (L.chains links.now).places }
         requires short { (L.chains links.now).places ≤ 192 }
-        requires rows { AreRows (L.chains links.now) self.old.menus.items self.old.rows.items self.old.places.items }
-        ensures rows { OnOk result
-            (AreRows (L.chains links.now) self.new.menus.items self.new.rows.items self.new.places.items) }
-        ensures longer { OnOk result (length self.new.places.items ≡ length self.old.places.items + 1) }
+        requires rows { AreRows (L.chains links.now) self.old.menus.items self.old.rows.items
+            self.old.places.items }
+        ensures rows { OnOk result (AreRows (L.chains links.now) self.new.menus.items
+            self.new.rows.items self.new.places.items) }
+        ensures longer { OnOk result (length self.new.places.items ≡ length self.old.places.items
+            + 1) }
     {
         let number = self.number_of_menu(alloc, links, i)?;
         let sums = sums_of(cut, alloc, links, i, &self.menus[number], self)?;
@@ -308,13 +320,15 @@ impl Tables {
         Ok(())
     }
 
-    /// The number of the row of the place after, where place `i` is known to have the same one: a chain goes on from each column by
-    /// holding it, which costs nothing.
+    /// The number of the row of the place after, where place `i` is known to have the same one: a
+    /// chain goes on from each column by holding it, which costs nothing.
     fn number_of_next_row<L: Links>(&self, links: &L, i: usize) -> Option<usize>
         requires place { i + 1 + length self.now.places.items ≡ (L.chains links.now).places }
         requires short { (L.chains links.now).places ≤ 192 }
-        requires rows { AreRows (L.chains links.now) self.now.menus.items self.now.rows.items self.now.places.items }
-        ensures { IfSome result (IsRowNumberOf (L.chains links.now) i self.now.menus.items self.now.rows.items) }
+        requires rows { AreRows (L.chains links.now) self.now.menus.items self.now.rows.items
+            self.now.places.items }
+        ensures { IfSome result (IsRowNumberOf (L.chains links.now) i self.now.menus.items
+            self.now.rows.items) }
     {
         let count = self.places.len();
         if count == 0 {
@@ -339,10 +353,12 @@ impl Tables {
     ) -> Result<(), Memory>
         requires place { i + 1 + length self.old.places.items ≡ (L.chains links.now).places }
         requires short { (L.chains links.now).places ≤ 192 }
-        requires rows { AreRows (L.chains links.now) self.old.menus.items self.old.rows.items self.old.places.items }
-        ensures rows { OnOk result
-            (AreRows (L.chains links.now) self.new.menus.items self.new.rows.items self.new.places.items) }
-        ensures longer { OnOk result (length self.new.places.items ≡ length self.old.places.items + 1) }
+        requires rows { AreRows (L.chains links.now) self.old.menus.items self.old.rows.items
+            self.old.places.items }
+        ensures rows { OnOk result (AreRows (L.chains links.now) self.new.menus.items
+            self.new.rows.items self.new.places.items) }
+        ensures longer { OnOk result (length self.new.places.items ≡ length self.old.places.items
+            + 1) }
     {
         if let Some(number) = self.number_of_next_row(links, i) {
             self.places.push(number)?;
@@ -355,7 +371,8 @@ impl Tables {
     fn least_of_all<L: Links>(&self, links: &L) -> Option<u64>
         requires whole { length self.now.places.items ≡ (L.chains links.now).places }
         requires short { (L.chains links.now).places ≤ 192 }
-        requires rows { AreRows (L.chains links.now) self.now.menus.items self.now.rows.items self.now.places.items }
+        requires rows { AreRows (L.chains links.now) self.now.menus.items self.now.rows.items
+            self.now.places.items }
         ensures least { IsLeast (L.chains links.now) 0 None result }
         ensures small { IsAtMost ((L.chains links.now).places * 2 ^ 53) result }
     {
@@ -365,8 +382,8 @@ impl Tables {
         least_behind(links, 0, None, &self.menus[first.menu], &first.sums)
     }
 
-    /// The tables of these links, each row worked in pieces of so many columns. They take all their memory here, and are the same
-    /// for every piece and every gate.
+    /// The tables of these links, each row worked in pieces of so many columns. They take all their
+    /// memory here, and are the same for every piece and every gate.
     pub fn fill<R: Threads + Sync, L: Links + Sync, G: Gate>(
         rt: &R,
         alloc: Global,
@@ -397,11 +414,12 @@ impl Tables {
         Ok(tables)
     }
 
-    /// The least sum over the chains that begin behind a column of a place's menu and go on to the last place. None exactly
-    /// where no chain does.
+    /// The least sum over the chains that begin behind a column of a place's menu and go on to the
+    /// last place. None exactly where no chain does.
     pub fn rest(&self, i: usize, column: &Column) -> Option<u64>
         ensures least { IsRestBehind self.now i column.now.items result }
-        ensures small { (c : Chains) → AreTablesOf c self.now → i < c.places → IsAtMost (c.places * 2 ^ 53) result }
+        ensures small { (c : Chains) → AreTablesOf c self.now → i < c.places
+            → IsAtMost (c.places * 2 ^ 53) result }
     {
         let row = self.row_of(i)?;
         if row.menu >= self.menus.len() {
@@ -418,7 +436,8 @@ impl Tables {
     #[inline]
     pub fn rest_of_number(&self, i: usize, k: usize) -> Option<u64>
         ensures least { IsRestAt self.now i k result }
-        ensures small { (c : Chains) → AreTablesOf c self.now → i < c.places → IsAtMost (c.places * 2 ^ 53) result }
+        ensures small { (c : Chains) → AreTablesOf c self.now → i < c.places
+            → IsAtMost (c.places * 2 ^ 53) result }
     {
         let row = self.row_of(i)?;
         if k >= row.sums.len() {
@@ -440,7 +459,8 @@ impl Tables {
     /// The columns of the menu of a place, in reading order.
     #[inline]
     pub fn columns(&self, i: usize) -> &[Column]
-        ensures { (c : Chains) → AreTablesOf c self.now → i < c.places → items_of result.now ≡ c.menu i }
+        ensures { (c : Chains) → AreTablesOf c self.now → i < c.places → items_of result.now
+            ≡ c.menu i }
     {
         match self.menu_at(i) {
             Some(menu) => menu.as_slice(),
@@ -458,10 +478,12 @@ impl Tables {
         }
     }
 
-    /// The least sum over the chains that begin at the first place. None exactly where no chain does.
+    /// The least sum over the chains that begin at the first place. None exactly where no chain
+    /// does.
     pub fn start(&self) -> Option<u64>
         ensures least { (c : Chains) → AreTablesOf c self.now → IsLeast c 0 None result }
-        ensures small { (c : Chains) → AreTablesOf c self.now → IsAtMost (c.places * 2 ^ 53) result }
+        ensures small { (c : Chains) → AreTablesOf c self.now → IsAtMost (c.places * 2 ^ 53)
+            result }
     {
         self.start
     }

@@ -1,5 +1,5 @@
--- What is read of a list from a line on (`from`): one name more (`one_name`), the fault of a line (`wrong_name`, `no_name`), or
--- all names (`all_names`).
+-- What is read of a list from a line on (`from`): one name more (`one_name`), the fault of a line
+-- (`wrong_name`, `no_name`), or all names (`all_names`).
 use Rattle.std.proofs.Common.{◌≡◌, ℕ, ◌+◌, ◌<◌, ◌≤◌, ◌==◌, ◌≢◌, ◌↔◌, Bool, true, false, ◌&&◌, List, [], ◌∷◌, ◌++◌, length, get_or, Bor, Option, None, Some, Result, Ok, Err, ne_eqb, refl, ◌∙◌, arith}
 use Rattle.std.specs.Prelude.{MatchOption, nat_lt, not, ◌||◌, if◌then◌else◌}
 use Rattle.std.specs.Str.{IsUtf8, is_utf8}

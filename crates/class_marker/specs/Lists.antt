@@ -28,7 +28,8 @@ names_run = record {
 abbrev pub names_row : Row ℕ (List (List ℕ))
 names_row = Row.runs names_run []
 
--- the names in a list, or the number of its first line at fault: a text that is too long or no UTF-8 is so in line 1
+-- the names in a list, or the number of its first line at fault: a text that is too long or no
+-- UTF-8 is so in line 1
 abbrev pub listed_names : List ℕ → Result (List (List ℕ)) ℕ
 listed_names text =
     if nat_lt 65536 (length text) || not (is_utf8 text) then Err 1 else said is_feed names_row text
@@ -45,7 +46,8 @@ Gives (Err Memory) found = Unit {0}
 abbrev pub IsListed : List ℕ → Type 0
 IsListed text = (length text ≤ 65536) × IsUtf8 text
 
--- names are listed just where the lines say them, and a line is told just where the first fault stands in it
+-- names are listed just where the lines say them, and a line is told just where the first fault
+-- stands in it
 abbrev pub ListsAreRead : Type 0
 ListsAreRead = (text : List ℕ) (names : List (List ℕ))
     → IsText (IsListed text) is_feed names_row text names ↔ (listed_names text ≡ Ok names)

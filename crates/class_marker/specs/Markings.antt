@@ -56,6 +56,7 @@ abbrev pub IsContent : ℕ → Text → List ℕ → Type 0
 IsContent limit (Bytes read) bytes = read.items ≡ bytes
 IsContent limit TooLong bytes = limit < length bytes
 
--- `mark` says this of each file of which no more than 65,536 bytes are read, and of which this was read
+-- `mark` says this of each file of which no more than 65,536 bytes are read, and of which this was
+-- read
 abbrev pub IsMarkingOf : Text → Marking → Type 0
 IsMarkingOf text marking = (bytes : List ℕ) → IsContent 65536 text bytes → IsMarking bytes marking

@@ -1,4 +1,5 @@
--- The report of a class of exercises: the reports of its exercises, one after the other, and a line that counts them.
+-- The report of a class of exercises: the reports of its exercises, one after the other, and a line
+-- that counts them.
 use Rattle.std.specs.Prelude.{◌≡◌, ℕ, ◌≤◌, ◌<◌, Bool, true, false, List, [], ◌∷◌, ◌++◌, length, zip, codes, count_by, string_bytes, sum_by, slice_index_or, String, Result, Ok, Err, IfOk}
 use Rattle.std.specs.Fmt.{decimal}
 use Rattle.std.specs.List.{All, AllZip, flat_map}
@@ -15,8 +16,8 @@ use Rattle.class_marker.specs.Unmarked.{unmarked_text}
 
 -- ---- the report of one exercise
 
--- the report of the exercise of this name, of which `mark` says this: the name on a line, and then the lines that `mark`
--- writes, or the line that tells why it refuses the text
+-- the report of the exercise of this name, of which `mark` says this: the name on a line, and then
+-- the lines that `mark` writes, or the line that tells why it refuses the text
 abbrev pub report_of : List ℕ → Marking → List ℕ
 report_of name (Marked lines) = name ++ 10 ∷ string_bytes lines.text
 report_of name (Refused why) = name ++ 10 ∷ unmarked_text name why ++ 10 ∷ []
@@ -54,7 +55,8 @@ marked_in entries = count_by (λ entry. has_mark entry.1) entries
 abbrev pub refused_in : List Entry → ℕ
 refused_in entries = count_by (λ entry. is_refused entry.1) entries
 
--- the last line: how many exercises there are, how many of them have a mark, and how many are refused
+-- the last line: how many exercises there are, how many of them have a mark, and how many are
+-- refused
 abbrev pub class_line : ℕ → ℕ → ℕ → List ℕ
 class_line count marked refused =
     codes "class " ++ decimal count ++ codes ", with marks " ++ decimal marked ++ codes ", refused " ++ decimal refused

@@ -71,12 +71,15 @@ fn parts_of<R: Threads + Sync>(
     texts: &[Text],
 ) -> Result<Vec<Result<ClassReport, Memory>>, Memory>
     requires { length names.now ≡ length texts.now }
-    ensures count { IfOk result (λ parts. length parts.items ≡ length texts.now / 32 + min 1 (length texts.now % 32)) }
+    ensures count { IfOk result (λ parts. length parts.items ≡ length texts.now / 32
+        + min 1 (length texts.now % 32)) }
     ensures each { IfOk result (λ parts. ArePartsOf names.now texts.now parts.items) }
 {
     let work = |start: usize, chunk: &[Text]| -> Result<ClassReport, Memory>
         requires { start + length chunk.now ≤ length names.now }
-        ensures { IfOk result (IsPart (zip (take (length chunk.entry.now) (drop start names.entry.now)) chunk.entry.now)) }
+        ensures { IfOk result
+            (IsPart (zip (take (length chunk.entry.now) (drop start names.entry.now))
+            chunk.entry.now)) }
     { work_chunk(alloc, &names[start..start + chunk.len()], chunk) };
     Ok(thread::map_chunks(rt, alloc, texts, CHUNK, &work)?)
 }
@@ -107,7 +110,8 @@ fn gathered(alloc: Global, parts: &[Result<ClassReport, Memory>]) -> Result<Clas
 
 /// Appends the last line.
 fn put_count(text: &mut String, count: usize, marked: usize, refused: usize) -> Result<(), Memory>
-    ensures { OnOk result (string_bytes text.new ≡ string_bytes text.old ++ class_line count marked refused) }
+    ensures { OnOk result (string_bytes text.new ≡ string_bytes text.old ++ class_line count marked
+        refused) }
 {
     write!(
         text,
@@ -130,8 +134,8 @@ fn reports<R: Threads + Sync>(
     gathered(alloc, &parts)
 }
 
-/// The report of exercises under the names of their files: that of each, in order, and a line that counts them. It is the same
-/// for every number of threads.
+/// The report of exercises under the names of their files: that of each, in order, and a line that
+/// counts them. It is the same for every number of threads.
 pub fn report<R: Threads + Sync>(
     rt: &R,
     alloc: Global,

@@ -83,10 +83,12 @@ fn names_in(alloc: Global, text: &str) -> Result<Vec<String>, ListFault>
     Ok(names)
 }
 
-/// The names that a list has, in its order. A list has at most 65,536 bytes of UTF-8 in 1 to 512 lines, and each line is a name of 1 to
-/// 255 bytes with a line feed behind it. A list that is too long, empty or no UTF-8 is at fault in line 1.
+/// The names that a list has, in its order. A list has at most 65,536 bytes of UTF-8 in 1 to 512
+/// lines, and each line is a name of 1 to 255 bytes with a line feed behind it. A list that is too
+/// long, empty or no UTF-8 is at fault in line 1.
 pub fn read_list(alloc: Global, list: &Text) -> Result<Vec<String>, ListFault>
-    ensures { (bytes : List ℕ) → IsContent 65536 list.now bytes → Gives result (listed_names bytes) }
+    ensures { (bytes : List ℕ) → IsContent 65536 list.now bytes
+        → Gives result (listed_names bytes) }
 {
     let Text::Bytes(bytes) = list else {
         return Err(ListFault::At { line: 1 });
@@ -100,8 +102,8 @@ pub fn read_list(alloc: Global, list: &Text) -> Result<Vec<String>, ListFault>
     }
 }
 
-/// A law, and nothing to run: names are listed just where the lines of a text are names, one each, and a line is told just where the
-/// first fault stands in it.
+/// A law, and nothing to run: names are listed just where the lines of a text are names, one each,
+/// and a line is told just where the first fault stands in it.
 pub fn lists_are_read()
     ensures names { ListsAreRead }
     ensures faults { ListFaultsAreRead }

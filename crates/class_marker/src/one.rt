@@ -56,7 +56,8 @@ pub fn mark_text(alloc: Global, text: &Text) -> Result<Marking, Memory>
 
 /// Appends the report of one exercise: its name on a line, and then what `mark` says of its text.
 pub(crate) fn put_report(text: &mut String, name: &str, marking: &Marking) -> Result<(), Memory>
-    ensures { OnOk result (string_bytes text.new ≡ string_bytes text.old ++ report_of name.now marking.now) }
+    ensures { OnOk result (string_bytes text.new ≡ string_bytes text.old ++ report_of name.now
+        marking.now) }
 {
     text.push_str(name)?;
     text.push('\n')?;

@@ -10,7 +10,8 @@ use std::fmt::Write;
 /// Why `mark` refuses a text.
 #[derive(Clone, Copy, Debug, PartialEq, Eq)]
 pub enum Unmarked {
-    /// It is no note text: its first fault, with the line and the byte of it where that stands, counted from 1.
+    /// It is no note text: its first fault, with the line and the byte of it where that stands,
+    /// counted from 1.
     Text {
         kind: TextKind,
         line: u32,
@@ -22,7 +23,8 @@ pub enum Unmarked {
 
 /// Appends what is said of a text that is refused, under a name.
 pub fn put_unmarked(text: &mut String, name: &str, why: Unmarked) -> Result<(), Memory>
-    ensures { OnOk result (string_bytes text.new ≡ string_bytes text.old ++ unmarked_text name.now why) }
+    ensures { OnOk result (string_bytes text.new ≡ string_bytes text.old ++ unmarked_text name.now
+        why) }
 {
     match why {
         Unmarked::Text { kind, line, column } => {

@@ -37,8 +37,8 @@ pub enum Job {
     ToXml,
     /// The MusicXML document of its setting with the marks in red.
     MarkXml,
-    /// The picture of its setting, with its penalty below where that is wanted; or without one of the
-    /// sheet to fill in.
+    /// The picture of its setting, with its penalty below where that is wanted; or without one of
+    /// the sheet to fill in.
     Picture { penalty: bool },
     /// The picture of its setting with the marks in red.
     MarkPicture,
@@ -185,7 +185,8 @@ pub fn parse(alloc: Global, words: &[String]) -> Result<Option<Command<'_>>, Mem
 
 /// What the words behind the first of a command ask for, or none where they aren't of its form.
 fn parse_behind(alloc: Global, verb: Verb, words: &[String]) -> Result<Option<Command<'_>>, Memory>
-    ensures asked { IfOk result (λ found. option_map task_of found ≡ asked_by verb (texts words.now)) }
+    ensures asked { IfOk result (λ found. option_map task_of found
+        ≡ asked_by verb (texts words.now)) }
     ensures head { IfOk result (λ found. IfSome found HasHead) }
 {
     let Some(matches) = taken(form(alloc, verb)?, words)? else {

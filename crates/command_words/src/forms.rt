@@ -41,7 +41,8 @@ fn with_parts<'a>(
 
 /// The command with one part more.
 fn with_part<'a>(alloc: Global, command: Command<'a>, part: Part) -> Result<Command<'a>, AllocError>
-    ensures { IfOk result (λ longer. app_of longer ≡ with_rule (app_of command.entry) (rule_of part)) }
+    ensures { IfOk result (λ longer. app_of longer ≡ with_rule (app_of command.entry)
+        (rule_of part)) }
 {
     let name = part.name();
     match part.kind() {
@@ -58,7 +59,8 @@ fn with_word<'a>(
     command: Command<'a>,
     word: &'a str,
 ) -> Result<Command<'a>, AllocError>
-    ensures { IfOk result (λ longer. app_of longer ≡ with_rule (app_of command.entry) (needed_word word.entry.now)) }
+    ensures { IfOk result (λ longer. app_of longer ≡ with_rule (app_of command.entry)
+        (needed_word word.entry.now)) }
 {
     let needed = Arg::new(alloc, word).required(true);
     command.arg(needed)
@@ -71,7 +73,8 @@ fn with_option<'a>(
     name: &'a str,
     needed: bool,
 ) -> Result<Command<'a>, AllocError>
-    ensures { IfOk result (λ longer. app_of longer ≡ with_rule (app_of command.entry) (option_word needed name.entry.now)) }
+    ensures { IfOk result (λ longer. app_of longer ≡ with_rule (app_of command.entry)
+        (option_word needed name.entry.now)) }
 {
     let option = Arg::new(alloc, name).long(name).required(needed);
     command.arg(option)
@@ -83,7 +86,8 @@ fn with_flag<'a>(
     command: Command<'a>,
     name: &'a str,
 ) -> Result<Command<'a>, AllocError>
-    ensures { IfOk result (λ longer. app_of longer ≡ with_rule (app_of command.entry) (flag_word name.entry.now)) }
+    ensures { IfOk result (λ longer. app_of longer ≡ with_rule (app_of command.entry)
+        (flag_word name.entry.now)) }
 {
     let flag = Arg::new(alloc, name).long(name).action(ArgAction::SetTrue);
     command.arg(flag)

@@ -30,7 +30,8 @@ const LAST_DRILL: u32 = 1_000_000;
 
 /// The first value of an option or a word.
 fn value<'a>(matches: &ArgMatches<'a>, id: &str) -> Option<&'a str>
-    ensures { option_map (λ text. text.now) result ≡ first_of id.now (rows_of (found_of matches.now)) }
+    ensures { option_map (λ text. text.now) result
+        ≡ first_of id.now (rows_of (found_of matches.now)) }
 {
     matches.get_str(id)
 }
@@ -253,7 +254,8 @@ fn drill_asked<'a>(matches: &ArgMatches<'a>) -> Option<Command<'a>>
 
 /// Marking the exercise of a file alone, or as an answer to a lesson.
 fn marking_of<'a>(name: &'a str, lesson: Option<&'a str>) -> Making<'a>
-    ensures asked { making_task result ≡ marking_of name.entry.now (option_map (λ text. text.now) lesson.entry) }
+    ensures asked { making_task result ≡ marking_of name.entry.now (option_map (λ text. text.now)
+        lesson.entry) }
     ensures head { HasMidiHead result }
 {
     match lesson {
@@ -433,7 +435,8 @@ fn weighing_with<'a>(
     against: Option<u32>,
 ) -> Option<Command<'a>>
     ensures asked { option_map task_of result ≡ weighing_with name.entry.now
-        (option_map (λ text. text.now) sheet.entry) (option_map (λ text. text.now) with.entry) against }
+        (option_map (λ text. text.now) sheet.entry) (option_map (λ text. text.now) with.entry)
+        against }
     ensures head { IfSome result HasHead }
 {
     let Some(list) = with else {
@@ -500,7 +503,8 @@ fn marked_picture_with<'a>(name: &'a str, with: Option<&'a str>) -> Option<Comma
 
 /// `markpicture`, of the exercise of a file.
 fn mark_picture_asked<'a>(matches: &ArgMatches<'a>) -> Option<Command<'a>>
-    ensures asked { option_map task_of result ≡ mark_picture_asked (rows_of (found_of matches.now)) }
+    ensures asked { option_map task_of result ≡ mark_picture_asked
+        (rows_of (found_of matches.now)) }
     ensures head { IfSome result HasHead }
 {
     let name = value(matches, "EX")?;
@@ -545,7 +549,8 @@ fn new_cantus_asked<'a>(matches: &ArgMatches<'a>) -> Option<Command<'a>>
 
 /// `certcantus`, of what is asked of a cantus.
 fn certify_cantus_asked<'a>(matches: &ArgMatches<'a>) -> Option<Command<'a>>
-    ensures asked { option_map task_of result ≡ certify_cantus_asked (rows_of (found_of matches.now)) }
+    ensures asked { option_map task_of result ≡ certify_cantus_asked
+        (rows_of (found_of matches.now)) }
     ensures head { IfSome result HasHead }
 {
     let wanted = wanted_of(matches)?;
@@ -560,7 +565,8 @@ fn certify_cantus_asked<'a>(matches: &ArgMatches<'a>) -> Option<Command<'a>>
 
 /// `checkcantus`, of what is asked of a cantus and of the certificate of a file.
 fn check_cantus_asked<'a>(matches: &ArgMatches<'a>) -> Option<Command<'a>>
-    ensures asked { option_map task_of result ≡ check_cantus_asked (rows_of (found_of matches.now)) }
+    ensures asked { option_map task_of result ≡ check_cantus_asked
+        (rows_of (found_of matches.now)) }
     ensures head { IfSome result HasHead }
 {
     let wanted = wanted_of(matches)?;

@@ -1,5 +1,5 @@
--- S15, S20, S27 and S28 wait for later columns. Once settled they read the same in each prefix that goes on, and so in each setting; S19
--- and S21 do at once.
+-- S15, S20, S27 and S28 wait for later columns. Once settled they read the same in each prefix that
+-- goes on, and so in each setting; S19 and S21 do at once.
 use Rattle.std.specs.Prelude.{◌≡◌, ◌≢◌, ℕ, suc, ◌+◌, ◌-◌, ◌*◌, ◌<◌, ◌≤◌, ◌==◌, Bool, true, false, not, ◌&&◌, ◌||◌, nat_le, nat_lt, List, [], ◌∷◌, ◌++◌, Option, Some, None, is_some, length, drop, slice_index_or, if◌then◌else◌, refl}
 use Rattle.std.proofs.Common.{ap, sym, ◌∙◌, subst, arith}
 use Rattle.std.proofs.Math.ListN.{get_or-append}

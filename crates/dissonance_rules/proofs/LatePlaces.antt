@@ -38,7 +38,8 @@ pub open_parts : (clashing notes last : Bool) → not (not clashing || notes || 
 open_parts true notes last h = (refl, h)
 open_parts false notes last h = cc
 
--- where a test of a set of two voices passes, it passes for one way to name them, and what fails for the set fails for that way
+-- where a test of a set of two voices passes, it passes for one way to name them, and what fails
+-- for the set fails for that way
 pub record Way (ex : Exercise) (test : ℕ → ℕ → Bool) (voices : ℕ) : Type 0 where
   pub v : ℕ
   pub w : ℕ
@@ -93,7 +94,8 @@ way_of ex test voices = at (pair_of voices) refl
               }
         ]
 
--- none of the others reads beyond its own column whether a note is held there at the beginning of a bar
+-- none of the others reads beyond its own column whether a note is held there at the beginning of a
+-- bar
 pub not_at_bars : (n : ℕ) (ex : Exercise) (voices i : ℕ) (behind : List (List Cell)) (now : List Cell)
     (ahead : List (List Cell)) → is_told_later n ≡ false → begins_bar i ≡ false
     → clash_row n ex voices i behind now ahead ≡ false
@@ -153,7 +155,8 @@ suspension_places ex voices p col i n soon h =
 
 -- ---- S15 and S27
 
--- where one of them is broken a free voice starts a note within a bar, and the rule has places in the exercise
+-- where one of them is broken a free voice starts a note within a bar, and the rule has places in
+-- the exercise
 record IsStart (ex : Exercise) (n i : ℕ) (now : List Cell) : Type 0 where
   pub slot : slot_of i ≢ 0
   pub places : has_places_in n ex ≡ true
@@ -400,7 +403,8 @@ module _ (ex : Exercise) (voices : ℕ) (p : List (List Cell)) (col : List Cell)
 
 -- ---- S20 and S28
 
--- what stands where a bar begins, and is settled so many columns later, is settled by the column at that slot
+-- what stands where a bar begins, and is settled so many columns later, is settled by the column at
+-- that slot
 module _ (n : ℕ) (short : n < 7) (ex : Exercise) (p : List (List Cell)) (col : List Cell) (i : ℕ)
     (on : GoesOn ex p (col ∷ [])) (newly_there : newly (settled_by (enough_ahead n ex)) p col i ≡ true)
     (begins : begins_bar i ≡ true) where

@@ -1,4 +1,5 @@
--- What the newest column settles of the late rules, after an orderly prefix (`kept_around`, `newly_at_place`).
+-- What the newest column settles of the late rules, after an orderly prefix (`kept_around`,
+-- `newly_at_place`).
 use Rattle.std.specs.Prelude.{◌≡◌, ◌≢◌, ℕ, ◌+◌, ◌-◌, ◌<◌, ◌≤◌, ◌==◌, Bool, true, false, not, ◌&&◌, ◌||◌, nat_le, nat_lt, List, [], ◌∷◌, ◌++◌, IsTrue, Some, drop, take, length, slice_index_or, if◌then◌else◌, refl}
 use Rattle.std.proofs.Common.{ap, sym, ◌∙◌, subst, arith}
 use Rattle.std.proofs.Math.ListN.{get_or-append}

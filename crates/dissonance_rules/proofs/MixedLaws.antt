@@ -1,5 +1,5 @@
--- S27 waits for the notes that tell whether a start is excused. Once settled it reads the same in each prefix that goes on
--- (`excuse_is_local`).
+-- S27 waits for the notes that tell whether a start is excused. Once settled it reads the same in
+-- each prefix that goes on (`excuse_is_local`).
 use Rattle.std.specs.Prelude.{◌≡◌, ℕ, ◌+◌, ◌<◌, Bool, true, false, not, ◌&&◌, ◌||◌, nat_lt, List, [], ◌++◌, Option, Some, None, length, drop, slice_index_or, refl}
 use Rattle.std.proofs.Common.{ap, sym, ◌∙◌}
 use Rattle.std.proofs.lemmas.Bool.{and_from, not-true, or_parts}

@@ -185,7 +185,8 @@ module _ (p : List (List Cell)) (v c : ℕ) where
             }
       ]
 
-  -- in an orderly list a voice starts a note at one of the slots where each shape of the bar has a start
+  -- in an orderly list a voice starts a note at one of the slots where each shape of the bar has a
+  -- start
   pub starts_in_bar : (ex : Exercise) (slots : List ℕ) → IsOrderly ex p → IsFree ex v → 8 * c < length p
       → list_all (λ k. nat_lt k 8 && nat_lt (8 * c + k) (length p)) slots ≡ true
       → list_all (shows slots) (shapes_in (species_in ex v) (c + 1) ex.bars) ≡ true → StartsAmong p v c slots

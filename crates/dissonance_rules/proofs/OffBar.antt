@@ -1,5 +1,5 @@
--- Within a bar only voices of other species than 1 start notes, at slots that their shapes have (`starter_settles`), so at columns that may
--- settle S15 or S27 (`settles_in`).
+-- Within a bar only voices of other species than 1 start notes, at slots that their shapes have
+-- (`starter_settles`), so at columns that may settle S15 or S27 (`settles_in`).
 use Rattle.std.specs.Prelude.{◌≡◌, ◌≢◌, ℕ, ◌%◌, ◌<◌, ◌+◌, ◌≤◌, ◌==◌, ◌||◌, Bool, true, false, not, List, ◌∷◌, ◌++◌, codes, [], Contains, Option, Some, None, is_some, option_map, slice_get, slice_index_or, ◌/◌, if◌then◌else◌, refl}
 use Rattle.std.proofs.Common.{ap, sym, ◌∙◌, subst, inl, inr, arith}
 use Rattle.std.proofs.lemmas.Bool.{agree_below, agree_below_at, both_ways, cases_Bool, cases_lt, cond_both, eqb-true, ne_eqb}

@@ -1,4 +1,5 @@
--- A suspended voice is unprepared by the note's start just where it is by the three columns before (`unprepared_same`).
+-- A suspended voice is unprepared by the note's start just where it is by the three columns before
+-- (`unprepared_same`).
 use Rattle.std.specs.Prelude.{◌≡◌, ℕ, suc, ◌+◌, ◌-◌, ◌%◌, ◌≤◌, Bool, true, false, not, ◌&&◌, ◌||◌, nat_lt, List, [], ◌∷◌, None, length, slice_index_or, if◌then◌else◌, refl}
 use Rattle.std.proofs.Common.{ap, sym, ◌∙◌, arith}
 use Rattle.std.proofs.lemmas.Bool.{and_parts, eqb-true, lt-ltb}

@@ -1,4 +1,5 @@
--- Notes that come after a place: the earlier the place, the more there are (`count-earlier`), and enough of them settle S15 there (`told_places`).
+-- Notes that come after a place: the earlier the place, the more there are (`count-earlier`), and
+-- enough of them settle S15 there (`told_places`).
 use Rattle.std.specs.Prelude.{◌≡◌, ℕ, zero, suc, ◌+◌, ◌-◌, ◌<◌, ◌≤◌, Bool, true, false, List, [], ◌∷◌, drop, take, length, slice_index_or, if◌then◌else◌, is_some, refl}
 use Rattle.std.specs.Int.{from_bool}
 use Rattle.std.proofs.Common.{ap, sym, inl, inr, arith}

@@ -1,4 +1,5 @@
--- The rules and tolls of dissonance as a crate's book. S15, S19, S20, S21, S27 and S28 are late: they are read from the newest columns.
+-- The rules and tolls of dissonance as a crate's book. S15, S19, S20, S21, S27 and S28 are late:
+-- they are read from the newest columns.
 use Rattle.std.specs.Prelude.{ℕ, Bool, ◌+◌, ◌-◌, ◌%◌, ◌==◌, not, ◌&&◌, ◌||◌, true, false, if◌then◌else◌, List, [], ◌∷◌}
 use Rattle.fux_grid.specs.declared.exercise.Exercise.{Exercise}
 use Rattle.fux_grid.specs.Exercises.{is_mixed, slot_of}
@@ -20,8 +21,9 @@ has_rule n = (n == 11) || (n == 14) || is_late n
 abbrev pub has_toll : ℕ → Bool
 has_toll n = (n == 1) || (n == 2)
 
--- how many columns before the newest one S15 may be open for a voice of a species: until its next note, or in species 3 and 5 the one
--- after that. In florid bars, but for the first, a note starts by the middle
+-- how many columns before the newest one S15 may be open for a voice of a species: until its next
+-- note, or in species 3 and 5 the one after that. In florid bars, but for the first, a note starts
+-- by the middle
 abbrev pub reach : ℕ → ℕ
 reach species =
     if (species == 2) || (species == 3) then 4
@@ -47,7 +49,8 @@ may_settle_in ex i = if is_mixed ex then not (i % 4 == 1) else may_settle ex.spe
 abbrev pub has_places_in : ℕ → Exercise → Bool
 has_places_in n ex = if n == 15 then not (is_mixed ex) else is_mixed ex
 
--- their places: a clash stays open for so many columns at most, and is settled where a note may start
+-- their places: a clash stays open for so many columns at most, and is settled where a note may
+-- start
 abbrev pub passing_count : ℕ → Exercise → ℕ → ℕ
 passing_count n ex i = if has_places_in n ex && may_settle_in ex i then i + 1 - (i - passing_reach ex) else 0
 

@@ -1,4 +1,5 @@
--- The rules of two voices that clash, one of which is free: S15, S19, S20 and S21, and S27 and S28 where species are mixed.
+-- The rules of two voices that clash, one of which is free: S15, S19, S20 and S21, and S27 and S28
+-- where species are mixed.
 use Rattle.std.specs.Prelude.{ℕ, ◌==◌, Bool, ◌||◌, nat_le, List, length, if◌then◌else◌}
 use Rattle.fux_grid.specs.declared.cell.Cell.{Cell}
 use Rattle.fux_grid.specs.declared.exercise.Exercise.{Exercise}
@@ -59,7 +60,8 @@ newly_passing ex voices = newly (settled_by (passing_enough ex voices))
 abbrev pub enough_ahead : ℕ → Exercise → Row Bool
 enough_ahead n ex i behind now ahead = nat_le n (length ahead) || is_whole ex i ahead
 
--- where the rules are settled: S20 at the fourth column after the place, S28 at the third; S19 and S21 are at once
+-- where the rules are settled: S20 at the fourth column after the place, S28 at the third; S19 and
+-- S21 are at once
 abbrev pub clash_enough : ℕ → Exercise → ℕ → Row Bool
 clash_enough rule ex voices =
     if is_told_later rule then passing_enough ex voices

@@ -1,4 +1,5 @@
--- S19, S20 and S21: a voice that holds a note over a bar line and clashes there. Its note has to be prepared, resolved and of a good size.
+-- S19, S20 and S21: a voice that holds a note over a bar line and clashes there. Its note has to be
+-- prepared, resolved and of a good size.
 use Rattle.std.specs.Prelude.{ℕ, ◌-◌, ◌%◌, ◌==◌, Bool, not, ◌&&◌, ◌||◌, nat_le, List, [], ◌∷◌, slice_index_or}
 use Rattle.fux_grid.specs.declared.cell.Cell.{Cell}
 use Rattle.fux_grid.specs.Cells.{cell_in, is_hold, pitch_of}
@@ -12,18 +13,21 @@ use Rattle.rule_law.specs.Terms.{clash, degrees_without_sign, holds_of, interval
 abbrev pub is_suspended : ℕ → List Cell → ℕ → ℕ → Bool
 is_suspended i now v w = begins_bar i && is_hold (cell_in now v) && clash now v w
 
--- S19: a suspended voice is unprepared: its note started after column i - 4, or it wasn't clean in the column before
+-- S19: a suspended voice is unprepared: its note started after column i - 4, or it wasn't clean in
+-- the column before
 abbrev pub lacks_preparation : ℕ → List (List Cell) → List Cell → ℕ → ℕ → Bool
 lacks_preparation i behind now v w =
     is_suspended i now v w
     && (started_after (i - 4) (sounding_note v (now ∷ behind)) || not (is_clean (newest_column behind) v))
 
--- the same from the three columns before, the newest first: the voice started a note in one of them, or it wasn't clean in the newest
+-- the same from the three columns before, the newest first: the voice started a note in one of
+-- them, or it wasn't clean in the newest
 abbrev pub is_unprepared : List Cell → List Cell → List Cell → ℕ → Bool
 is_unprepared newest second third v =
     starts (cell_in newest v) || starts (cell_in second v) || starts (cell_in third v) || not (is_clean newest v)
 
--- it resolves: it is held in the next column, and in the fourth from here a note starts, one degree below, where the voice is clean
+-- it resolves: it is held in the next column, and in the fourth from here a note starts, one degree
+-- below, where the voice is clean
 abbrev pub resolves : List Cell → List Cell → List Cell → ℕ → Bool
 resolves now next fourth v =
     is_hold (cell_in next v)
@@ -36,8 +40,8 @@ abbrev pub lacks_resolution : ℕ → List Cell → List (List Cell) → ℕ →
 lacks_resolution i now ahead v w =
     is_suspended i now v w && not (resolves now (slice_index_or ahead 0 []) (slice_index_or ahead 3 []) v)
 
--- over the lowest voice a seventh, a fourth or a ninth is suspended well, and no second: of so many degrees, which leave 6 or 3 without
--- octaves, or 1 with an octave at least
+-- over the lowest voice a seventh, a fourth or a ninth is suspended well, and no second: of so many
+-- degrees, which leave 6 or 3 without octaves, or 1 with an octave at least
 abbrev pub is_good_above : ℕ → Bool
 is_good_above d = (d % 7 == 6) || (d % 7 == 3) || ((d % 7 == 1) && nat_le 8 d)
 
@@ -55,6 +59,7 @@ abbrev pub is_bad_below : List Cell → ℕ → ℕ → Bool
 is_bad_below now v w =
     is_lowest now v && holds_of (λ k. not (is_good_below (degrees_without_sign k))) (interval_in now v w)
 
--- S21: v is suspended over w, or under it, and one of the two is the lowest voice, at a size that isn't good there
+-- S21: v is suspended over w, or under it, and one of the two is the lowest voice, at a size that
+-- isn't good there
 abbrev pub is_bad_suspension : ℕ → List Cell → ℕ → ℕ → Bool
 is_bad_suspension i now v w = is_suspended i now v w && (is_bad_above now v w || is_bad_below now v w)

@@ -19,7 +19,8 @@ is_excused ex i behind now ahead v = starts (cell_in now v) && is_free ex v && i
 abbrev pub clash_anew : ℕ → List Cell → ℕ → ℕ → Bool
 clash_anew i now v w = not (begins_bar i) && clash now v w && one_starts now v w
 
--- S27: in a mixed exercise two voices clash anew within a bar, and no note that one of them starts is excused
+-- S27: in a mixed exercise two voices clash anew within a bar, and no note that one of them starts
+-- is excused
 abbrev pub clash_unexcused : Exercise → ℕ → List (List Cell) → List Cell → List (List Cell) → ℕ → ℕ → Bool
 clash_unexcused ex i behind now ahead v w =
     is_mixed ex
@@ -31,8 +32,8 @@ abbrev pub starts_in_three : List Cell → List Cell → List Cell → ℕ → B
 starts_in_three first second third w =
     starts (cell_in first w) || starts (cell_in second w) || starts (cell_in third w)
 
--- S28, for one way to name the voices: in a mixed exercise v is suspended against w, and w starts a note in one of the three columns after,
--- before v can resolve
+-- S28, for one way to name the voices: in a mixed exercise v is suspended against w, and w starts a
+-- note in one of the three columns after, before v can resolve
 abbrev pub is_disturbed : Exercise → ℕ → List Cell → List (List Cell) → ℕ → ℕ → Bool
 is_disturbed ex i now ahead v w =
     is_mixed ex

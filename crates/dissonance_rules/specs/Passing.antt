@@ -1,4 +1,5 @@
--- S15: notes that start within a bar and clash, and what makes them good: passing notes, neighbors and the cambiata.
+-- S15: notes that start within a bar and clash, and what makes them good: passing notes, neighbors
+-- and the cambiata.
 use Rattle.std.specs.Prelude.{ℕ, ◌+◌, ◌-◌, ◌*◌, ◌==◌, Bool, false, not, ◌&&◌, ◌||◌, nat_lt, List, [], length, Option, Some, None, is_some, if◌then◌else◌, slice_index_or}
 use Rattle.fux_pitch.specs.declared.pitch.Pitch.{Pitch}
 use Rattle.fux_pitch.specs.declared.interval.Interval.{Interval}
@@ -16,7 +17,8 @@ use Rattle.rule_law.specs.Degrees.{lies_above}
 use Rattle.rule_law.specs.Places.{reading_of}
 use Rattle.rule_law.specs.Terms.{clash, falls, holds_of, interval_of_pitches, is_clean, is_step, previous_pitch, same_way, starts}
 
--- the test holds of the move from a first pitch to a second and of the move from the second to a third, where there are all three
+-- the test holds of the move from a first pitch to a second and of the move from the second to a
+-- third, where there are all three
 abbrev pub on_two_moves : (Interval → Interval → Bool) → Option Pitch → Option Pitch → Option Pitch → Bool
 on_two_moves test None q r = false
 on_two_moves test (Some p) None r = false
@@ -42,8 +44,8 @@ is_neighbor previous here next =
 abbrev pub falls_by_step : Option Pitch → Option Pitch → Bool
 falls_by_step p q = holds_of (λ i. is_step i && falls i) (interval_of_pitches p q)
 
--- a cambiata: the note falls by a step; the next note lies two degrees below it, and is clean at its start; the note after that lies
--- one degree above the next
+-- a cambiata: the note falls by a step; the next note lies two degrees below it, and is clean at
+-- its start; the note after that lies one degree above the next
 abbrev pub is_cambiata : Option Pitch → Option Pitch → Option Pitch → Bool → Option Pitch → Bool
 is_cambiata previous here next clean after =
     falls_by_step previous here && lies_above 2 here next && clean && lies_above 1 after next
@@ -83,7 +85,8 @@ is_good_in ex i behind now ahead v = is_good_note (species_in ex v) i behind now
 abbrev pub starts_in_clash : List Cell → ℕ → ℕ → Bool
 starts_in_clash now v w = starts (cell_in now v) && clash now v w
 
--- S15, for one way to name the voices, where one species is given: a note of v starts within a bar and clashes with w, and isn't good
+-- S15, for one way to name the voices, where one species is given: a note of v starts within a bar
+-- and clashes with w, and isn't good
 abbrev pub clashes_badly : Exercise → ℕ → List (List Cell) → List Cell → List (List Cell) → ℕ → ℕ → Bool
 clashes_badly ex i behind now ahead v w =
     not (is_mixed ex)
@@ -99,17 +102,19 @@ clashes_badly_at ex = reading_of (clashes_badly ex)
 abbrev pub reaches_last_bar : Exercise → ℕ → List (List Cell) → Bool
 reaches_last_bar ex i ahead = nat_lt (8 * (ex.bars - 1)) (i + 1 + length ahead)
 
--- how many notes of a voice after a clash tell what the note there is: two in species 3 and 5, else one
+-- how many notes of a voice after a clash tell what the note there is: two in species 3 and 5, else
+-- one
 abbrev pub notes_needed : ℕ → ℕ
 notes_needed species = if has_ornaments species then 2 else 1
 
--- the list has as many notes of v after column i as tell what the note there is: one, or two in species 3 and 5
+-- the list has as many notes of v after column i as tell what the note there is: one, or two in
+-- species 3 and 5
 abbrev pub has_notes_after : ℕ → ℕ → ℕ → List (List Cell) → Bool
 has_notes_after species i v ahead =
     if has_ornaments species then is_some (second_next_onset i v ahead) else is_some (next_onset i v ahead)
 
--- for one way to name the voices S15 is told: at once where no note of v starts that clashes with w, else once as many notes of v came
--- after it as tell what it is, or a column of the last bar did
+-- for one way to name the voices S15 is told: at once where no note of v starts that clashes with
+-- w, else once as many notes of v came after it as tell what it is, or a column of the last bar did
 abbrev pub is_told : Exercise → ℕ → List Cell → List (List Cell) → ℕ → ℕ → Bool
 is_told ex i now ahead v w =
     not (starts_in_clash now v w)

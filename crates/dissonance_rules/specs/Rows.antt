@@ -19,7 +19,8 @@ meet_in_unison ex i now v w = begins_inner_bar ex i && sound_same_key now v w
 abbrev pub clash_at_start : ℕ → List Cell → ℕ → ℕ → Bool
 clash_at_start i now v w = begins_bar i && starts (cell_in now v) && starts (cell_in now w) && clash now v w
 
--- Q1: at the beginning of a bar, neither the first nor the last, the lowest and the highest voice sound a perfect interval
+-- Q1: at the beginning of a bar, neither the first nor the last, the lowest and the highest voice
+-- sound a perfect interval
 abbrev pub is_outer_perfect : Exercise → ℕ → List Cell → Bool
 is_outer_perfect ex i now = begins_inner_bar ex i && sound_perfect now 0 (ex.voices - 1)
 

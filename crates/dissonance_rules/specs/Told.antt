@@ -1,4 +1,5 @@
--- The first columns of a list: whether they tell what a note of a voice is, and whether S15 is open in them.
+-- The first columns of a list: whether they tell what a note of a voice is, and whether S15 is open
+-- in them.
 use Rattle.std.specs.Prelude.{◌≡◌, ℕ, ◌+◌, ◌<◌, ◌≤◌, Bool, true, List, [], ◌∷◌, ◌++◌, drop, slice_index_or, take}
 use Rattle.fux_grid.specs.declared.cell.Cell.{Cell}
 use Rattle.fux_grid.specs.declared.exercise.Exercise.{Exercise}

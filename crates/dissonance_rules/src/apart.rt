@@ -27,7 +27,8 @@ fn some_come_close(ex: &Exercise, now: &[Cell]) -> bool
         .any(|pair| come_close(ex, now, pair.0, pair.1))
 }
 
-/// Whether no two voices of a column sound the same key or clash. Then it breaks neither S11 nor S14.
+/// Whether no two voices of a column sound the same key or clash. Then it breaks neither S11 nor
+/// S14.
 pub fn are_apart(ex: &Exercise, now: &[Cell]) -> bool
     ensures { result ≡ not (apart.some_come_close ex.now now.now) }
 {

@@ -12,7 +12,8 @@ use crate::told::passing_left;
 use fux_grid::{Cell, Exercise, Score, VoiceSet, is_mixed, slot_of};
 use rule_law::{Form, LatePlaces, LateQuestion, Latest, NewestColumns, RuleCrate, begins_bar};
 
-/// The crate's rules and tolls keep the laws of a book: a theorem, which costs nothing when it's called.
+/// The crate's rules and tolls keep the laws of a book: a theorem, which costs nothing when it's
+/// called.
 #[tactic(auto, using(crate::proofs::BookLaws::keeps_laws))]
 pub fn book_is_lawful()
     ensures { KeepsLaws books.book }
@@ -59,7 +60,8 @@ impl RuleCrate for Dissonance {
         }
     }
 
-    /// Of those of S15 and S27 the places at which the clash isn't told yet; all of the other rules'.
+    /// Of those of S15 and S27 the places at which the clash isn't told yet; all of the other
+    /// rules'.
     fn places_left(newest: &NewestColumns, rule: u8, ex: &Exercise) -> LatePlaces {
         if !is_told_later(rule) {
             return Dissonance::places_settled(rule, ex, newest.len - 1);

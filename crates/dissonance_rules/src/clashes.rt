@@ -1,4 +1,5 @@
-//! The rules of two voices that clash, one of which is free: S15, S19, S20 and S21, and S27 and S28 where species are mixed.
+//! The rules of two voices that clash, one of which is free: S15, S19, S20 and S21, and S27 and S28
+//! where species are mixed.
 
 ghost use Rattle.std.specs.Prelude.{◌≡◌, ◌<◌, ◌≤◌, ◌-◌, ◌&&◌, ℕ, length};
 ghost use Rattle.fux_grid.specs.Columns.{Columns};
@@ -28,8 +29,9 @@ fn breaks_one_way<C: ColumnsAround>(
     requires voices { ex.now.voices ≤ 4 }
     requires room { C.size around.now ≤ 192 }
     requires place { i < C.size around.now }
-    ensures { (s : Columns) (first : ℕ) → C.show around.now ex.now s first → first ≤ i - 3 → i < length s →
-        result ≡ (voices.is_free ex.now v && reading_of (clash_rule rule ex.now) s i v w) }
+    ensures { (s : Columns) (first : ℕ) → C.show around.now ex.now s first → first ≤ i - 3 → i
+        < length s → result ≡ (voices.is_free ex.now v && reading_of (clash_rule rule ex.now) s i v
+        w) }
 {
     if !is_free(ex, v) {
         return false;
@@ -43,7 +45,8 @@ fn breaks_one_way<C: ColumnsAround>(
     }
 }
 
-/// Whether a rule is broken for two voices. S27 names no voice first; the others are broken for one way to name them, or for both.
+/// Whether a rule is broken for two voices. S27 names no voice first; the others are broken for one
+/// way to name them, or for both.
 fn breaks_pair<C: ColumnsAround>(
     around: &C,
     rule: u8,
@@ -55,8 +58,8 @@ fn breaks_pair<C: ColumnsAround>(
     requires voices { ex.now.voices ≤ 4 }
     requires room { C.size around.now ≤ 192 }
     requires place { i < C.size around.now }
-    ensures { (s : Columns) (first : ℕ) → C.show around.now ex.now s first → first ≤ i - 3 → i < length s →
-        result ≡ reading_of (pair_rule rule ex.now) s i v w }
+    ensures { (s : Columns) (first : ℕ) → C.show around.now ex.now s first → first ≤ i - 3 → i
+        < length s → result ≡ reading_of (pair_rule rule ex.now) s i v w }
 {
     if rule == 27 {
         return clash_unexcused(around, ex, i, v, w);
@@ -64,8 +67,8 @@ fn breaks_pair<C: ColumnsAround>(
     breaks_one_way(around, rule, ex, i, v, w) || breaks_one_way(around, rule, ex, i, w, v)
 }
 
-/// Whether one of S15, S19, S20, S21, S27 and S28 is broken at column `i` for a set of two voices, one of which at least is free. The
-/// columns from the third before column `i` on are read.
+/// Whether one of S15, S19, S20, S21, S27 and S28 is broken at column `i` for a set of two voices,
+/// one of which at least is free. The columns from the third before column `i` on are read.
 pub fn breaks_clash<C: ColumnsAround>(
     around: &C,
     rule: u8,
@@ -76,8 +79,8 @@ pub fn breaks_clash<C: ColumnsAround>(
     requires voices { ex.now.voices ≤ 4 }
     requires room { C.size around.now ≤ 192 }
     requires place { i < C.size around.now }
-    ensures { (s : Columns) (first : ℕ) → C.show around.now ex.now s first → first ≤ i - 3 → i < length s →
-        result ≡ reading_of (clash_row rule ex.now voices.bits) s i }
+    ensures { (s : Columns) (first : ℕ) → C.show around.now ex.now s first → first ≤ i - 3 → i
+        < length s → result ≡ reading_of (clash_row rule ex.now voices.bits) s i }
 {
     let Some((v, w)) = pair_of(voices) else {
         return false;
@@ -88,7 +91,8 @@ pub fn breaks_clash<C: ColumnsAround>(
     breaks_pair(around, rule, ex, i, v, w)
 }
 
-/// Whether `v` is free and S15 is open for one way to name the voices in the first columns of the list.
+/// Whether `v` is free and S15 is open for one way to name the voices in the first columns of the
+/// list.
 fn is_open_one_way<C: ColumnsAround>(
     around: &C,
     ex: &Exercise,

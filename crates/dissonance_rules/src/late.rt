@@ -68,7 +68,8 @@ fn may_settle_in(ex: &Exercise, i: usize) -> bool
     may_settle(ex.species, i)
 }
 
-/// Whether S15 or S27 has places in an exercise: S15 where one species is given, and S27 where species are mixed.
+/// Whether S15 or S27 has places in an exercise: S15 where one species is given, and S27 where
+/// species are mixed.
 fn has_places_in(rule: u8, ex: &Exercise) -> bool
     ensures { result ≡ book.has_places_in rule ex.now }
 {
@@ -83,8 +84,10 @@ fn has_places_in(rule: u8, ex: &Exercise) -> bool
 pub(crate) fn passing_places(rule: u8, ex: &Exercise, i: usize) -> LatePlaces
     requires place { i < columns_in ex.now }
     requires valid { IsValid ex.now }
-    ensures first { clashes.is_told_later rule ≡ true → result.first ≡ book.late_first rule ex.now i }
-    ensures count { clashes.is_told_later rule ≡ true → result.count ≡ book.late_count rule ex.now i }
+    ensures first { clashes.is_told_later rule ≡ true → result.first ≡ book.late_first rule ex.now
+        i }
+    ensures count { clashes.is_told_later rule ≡ true → result.count ≡ book.late_count rule ex.now
+        i }
     ensures few { result.count ≤ 20 }
 {
     let first = i.saturating_sub(passing_reach(ex));
@@ -96,7 +99,8 @@ pub(crate) fn passing_places(rule: u8, ex: &Exercise, i: usize) -> LatePlaces
     LatePlaces { first, count }
 }
 
-/// Whether the newest column settles S15 and S27 at a place: they aren't open any more, and were before.
+/// Whether the newest column settles S15 and S27 at a place: they aren't open any more, and were
+/// before.
 pub(crate) fn settles_passing(
     newest: &NewestColumns,
     ex: &Exercise,

@@ -19,7 +19,8 @@ pub fn is_suspended(i: usize, now: &[Cell], v: usize, w: usize) -> bool
     begins_bar(i) && cell_of(now, v).is_hold() && is_clash(now, v, w)
 }
 
-/// Whether a voice is unprepared after three columns, the newest first: it started a note in one of them, or it isn't clean in the newest.
+/// Whether a voice is unprepared after three columns, the newest first: it started a note in one of
+/// them, or it isn't clean in the newest.
 pub fn is_unprepared(newest: &[Cell], second: &[Cell], third: &[Cell], v: usize) -> bool
     ensures { result ≡ words.is_unprepared newest.now second.now third.now v }
 {
@@ -29,8 +30,8 @@ pub fn is_unprepared(newest: &[Cell], second: &[Cell], third: &[Cell], v: usize)
     !is_clean(newest, v)
 }
 
-/// S19, for one way to name the voices: whether `v` is suspended over `w`, and its note started in one of the three columns before, or
-/// it wasn't clean in the last of them.
+/// S19, for one way to name the voices: whether `v` is suspended over `w`, and its note started in
+/// one of the three columns before, or it wasn't clean in the last of them.
 pub(crate) fn lacks_preparation<C: ColumnsAround>(
     around: &C,
     ex: &Exercise,
@@ -39,8 +40,8 @@ pub(crate) fn lacks_preparation<C: ColumnsAround>(
     w: u8,
 ) -> bool
     requires { ex.now.voices ≤ 4 }
-    ensures { (s : Columns) (first : ℕ) → C.show around.now ex.now s first → first ≤ i - 3 → i < length s →
-        result ≡ reading_back words.lacks_preparation s i v w }
+    ensures { (s : Columns) (first : ℕ) → C.show around.now ex.now s first → first ≤ i - 3 → i
+        < length s → result ≡ reading_back words.lacks_preparation s i v w }
 {
     if !is_suspended(i, around.cells(ex, i), v as usize, w as usize) {
         return false;
@@ -53,7 +54,8 @@ pub(crate) fn lacks_preparation<C: ColumnsAround>(
     )
 }
 
-/// Whether a suspended voice resolves: it is held in the next column, and in the fourth a note starts, one degree below, where it is clean.
+/// Whether a suspended voice resolves: it is held in the next column, and in the fourth a note
+/// starts, one degree below, where it is clean.
 pub fn resolves(now: &[Cell], next: &[Cell], fourth: &[Cell], v: usize) -> bool
     ensures { result ≡ words.resolves now.now next.now fourth.now v }
 {
@@ -99,7 +101,8 @@ fn is_lowest(now: &[Cell], v: usize) -> bool
     }
 }
 
-/// Whether a clash of so many degrees is good over the lowest voice: a seventh, a fourth or a ninth, and no second.
+/// Whether a clash of so many degrees is good over the lowest voice: a seventh, a fourth or a
+/// ninth, and no second.
 fn is_good_above(degrees: u16) -> bool
     ensures { result ≡ words.is_good_above degrees }
 {
@@ -133,8 +136,8 @@ fn is_bad_below(now: &[Cell], v: usize, w: usize) -> bool
     }
 }
 
-/// S21, for one way to name the voices: whether `v` is suspended against `w`, where one of them is the lowest voice, and they lie so
-/// many degrees apart that the clash isn't a good one.
+/// S21, for one way to name the voices: whether `v` is suspended against `w`, where one of them is
+/// the lowest voice, and they lie so many degrees apart that the clash isn't a good one.
 pub fn is_bad_suspension(i: usize, now: &[Cell], v: usize, w: usize) -> bool
     ensures { result ≡ words.is_bad_suspension i now.now v w }
 {

@@ -12,7 +12,8 @@ use rule_law::{
     ColumnsAround, begins_bar, cell_around, cells_ahead, is_clash, is_free, one_starts, starts,
 };
 
-/// Whether a note that `v` starts at column `i` is excused: `v` is free, and the note is good for the species of `v`.
+/// Whether a note that `v` starts at column `i` is excused: `v` is free, and the note is good for
+/// the species of `v`.
 fn is_excused<C: ColumnsAround>(around: &C, ex: &Exercise, i: usize, v: u8) -> bool
     requires voices { ex.now.voices ≤ 4 }
     requires room { C.size around.now ≤ 192 }
@@ -34,7 +35,8 @@ fn clash_anew(i: usize, now: &[Cell], v: usize, w: usize) -> bool
     !begins_bar(i) && is_clash(now, v, w) && one_starts(now, v, w)
 }
 
-/// S27: whether in a mixed exercise two voices clash anew within a bar, and no note that one of them starts is excused.
+/// S27: whether in a mixed exercise two voices clash anew within a bar, and no note that one of
+/// them starts is excused.
 pub(crate) fn clash_unexcused<C: ColumnsAround>(
     around: &C,
     ex: &Exercise,
@@ -61,8 +63,8 @@ fn starts_in_three(first: &[Cell], second: &[Cell], third: &[Cell], w: usize) ->
     starts(cell_of(first, w)) || starts(cell_of(second, w)) || starts(cell_of(third, w))
 }
 
-/// S28, for one way to name the voices: whether in a mixed exercise `v` is suspended against `w`, and `w` starts a note in one of the three
-/// columns after, before `v` can resolve.
+/// S28, for one way to name the voices: whether in a mixed exercise `v` is suspended against `w`,
+/// and `w` starts a note in one of the three columns after, before `v` can resolve.
 pub(crate) fn is_disturbed<C: ColumnsAround>(
     around: &C,
     ex: &Exercise,

@@ -1,4 +1,5 @@
-//! S15: notes that start within a bar and clash, and what makes them good: passing notes, neighbors and the cambiata.
+//! S15: notes that start within a bar and clash, and what makes them good: passing notes, neighbors
+//! and the cambiata.
 
 ghost use Rattle.std.specs.Prelude.{◌≡◌, ◌+◌, ◌-◌, ◌*◌, ◌<◌, ◌≤◌, ◌&&◌, ℕ, IfSome, true, not, nat_lt, drop};
 ghost use Rattle.fux_grid.specs.Cells.{first_of};
@@ -57,8 +58,8 @@ pub fn falls_by_step(p: Option<Pitch>, q: Option<Pitch>) -> bool
     }
 }
 
-/// A cambiata: the note falls by a step; the next note lies two degrees below it, and is clean at its start; the note after that lies
-/// one degree above the next.
+/// A cambiata: the note falls by a step; the next note lies two degrees below it, and is clean at
+/// its start; the note after that lies one degree above the next.
 pub fn is_cambiata(
     previous: Option<Pitch>,
     here: Option<Pitch>,
@@ -179,8 +180,8 @@ pub(crate) fn is_good_note<C: ColumnsAround>(around: &C, ex: &Exercise, i: usize
     requires voices { ex.now.voices ≤ 4 }
     requires room { C.size around.now ≤ 192 }
     requires place { i < C.size around.now }
-    ensures { (s : Columns) (first : ℕ) → C.show around.now ex.now s first → first ≤ i - 1 → is_free ex.now v ≡ true →
-        result ≡ reading_of (words.is_good_in ex.now) s i v }
+    ensures { (s : Columns) (first : ℕ) → C.show around.now ex.now s first → first ≤ i - 1
+        → is_free ex.now v ≡ true → result ≡ reading_of (words.is_good_in ex.now) s i v }
 {
     let next = next_notes(around, ex, i, v, around.count());
     is_good(
@@ -193,8 +194,8 @@ pub(crate) fn is_good_note<C: ColumnsAround>(around: &C, ex: &Exercise, i: usize
     )
 }
 
-/// S15, for one way to name the voices, where one species is given: whether a note of `v`, a free voice, starts within a bar and clashes
-/// with `w`, and isn't good.
+/// S15, for one way to name the voices, where one species is given: whether a note of `v`, a free
+/// voice, starts within a bar and clashes with `w`, and isn't good.
 pub(crate) fn clashes_badly<C: ColumnsAround>(
     around: &C,
     ex: &Exercise,
@@ -205,8 +206,8 @@ pub(crate) fn clashes_badly<C: ColumnsAround>(
     requires voices { ex.now.voices ≤ 4 }
     requires room { C.size around.now ≤ 192 }
     requires place { i < C.size around.now }
-    ensures { (s : Columns) (first : ℕ) → C.show around.now ex.now s first → first ≤ i - 1 → is_free ex.now v ≡ true →
-        result ≡ words.clashes_badly_at ex.now s i v w }
+    ensures { (s : Columns) (first : ℕ) → C.show around.now ex.now s first → first ≤ i - 1
+        → is_free ex.now v ≡ true → result ≡ words.clashes_badly_at ex.now s i v w }
 {
     if is_mixed(ex) || !clashes_within_bar(i, around.cells(ex, i), v as usize, w as usize) {
         return false;

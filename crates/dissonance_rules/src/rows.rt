@@ -68,7 +68,8 @@ pub fn breaks(
     latest: &Latest,
     now: &[Cell],
 ) -> bool
-    ensures { result ≡ rows.near_rows rule ex.now voices.bits i before.now latest.now.pitches now.now }
+    ensures { result ≡ rows.near_rows rule ex.now voices.bits i before.now latest.now.pitches
+        now.now }
 {
     let Some((v, w)) = pair_of(voices) else {
         return false;

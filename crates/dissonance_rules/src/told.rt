@@ -1,4 +1,5 @@
-//! How far back the newest columns tell what a note is: S15 and S27 are settled at all places before.
+//! How far back the newest columns tell what a note is: S15 and S27 are settled at all places
+//! before.
 
 ghost use Rattle.std.specs.Prelude.{◌≡◌, ◌<◌, ◌≤◌, ◌+◌, ◌-◌, true, length};
 ghost use Rattle.fux_grid.specs.Columns.{Columns, cell_at};
@@ -33,7 +34,8 @@ fn starts_at(newest: &NewestColumns, ex: &Exercise, v: u8, j: usize) -> bool
     starts(cell_of(newest.at(j, usize::from(ex.voices)), v as usize))
 }
 
-/// A place up to which, from a first one on, a voice has as many later notes in the first `end` columns as tell what the note there is.
+/// A place up to which, from a first one on, a voice has as many later notes in the first `end`
+/// columns as tell what the note there is.
 fn told_until(newest: &NewestColumns, ex: &Exercise, v: u8, first: usize, end: usize) -> usize
     requires voices { ex.now.voices ≤ 4 }
     requires order { first ≤ end }
@@ -41,7 +43,8 @@ fn told_until(newest: &NewestColumns, ex: &Exercise, v: u8, first: usize, end: u
     requires near { newest.now.len ≤ first + 25 }
     ensures from { first ≤ result }
     ensures to { result ≤ end }
-    ensures told { (s : Columns) → AreNewestOf ex.now.voices s newest.now → AreTold ex.now s end first result v }
+    ensures told { (s : Columns) → AreNewestOf ex.now.voices s newest.now → AreTold ex.now s end
+        first result v }
 {
     let mut left = notes_needed(species_of(ex, v));
     for k in 0..end - first {
@@ -61,7 +64,8 @@ fn all_told_until(newest: &NewestColumns, ex: &Exercise, first: usize, end: usiz
     requires near { newest.now.len ≤ first + 25 }
     ensures from { first ≤ result }
     ensures to { result ≤ end }
-    ensures told { (s : Columns) → AreNewestOf ex.now.voices s newest.now → AreAllTold ex.now s end first result }
+    ensures told { (s : Columns) → AreNewestOf ex.now.voices s newest.now → AreAllTold ex.now s end
+        first result }
 {
     let mut told = end;
     for v in 0..ex.voices {
@@ -72,15 +76,16 @@ fn all_told_until(newest: &NewestColumns, ex: &Exercise, first: usize, end: usiz
     told
 }
 
-/// Those of the places of S15 or S27 at which, as the newest columns tell, the newest one may settle a break.
+/// Those of the places of S15 or S27 at which, as the newest columns tell, the newest one may
+/// settle a break.
 pub(crate) fn passing_left(newest: &NewestColumns, rule: u8, ex: &Exercise) -> LatePlaces
     requires valid { IsValid ex.now }
     requires begun { 0 < newest.now.len }
     requires room { newest.now.len ≤ columns_in ex.now }
     requires told { is_told_later rule ≡ true }
     ensures from { late_first rule ex.now (newest.now.len - 1) ≤ result.first }
-    ensures to { result.first + result.count
-        ≤ late_first rule ex.now (newest.now.len - 1) + late_count rule ex.now (newest.now.len - 1) }
+    ensures to { result.first + result.count ≤ late_first rule ex.now (newest.now.len - 1)
+        + late_count rule ex.now (newest.now.len - 1) }
     ensures left { SettlesNoOther (late_row rule) ex.now newest.now result.first result.count }
 {
     let places = passing_places(rule, ex, newest.len - 1);

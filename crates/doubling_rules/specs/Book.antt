@@ -27,8 +27,8 @@ rule_row n = record {
   count = λ ex i. if is_before_last_bar ex i then 1 else 0;
 }
 
--- a toll may cost something at the column: Q3 at the beginnings of bars but the first and the last, Q4 and Q5 of all bars, Q3 and Q5 in
--- three or four voices, and Q6 anywhere
+-- a toll may cost something at the column: Q3 at the beginnings of bars but the first and the last,
+-- Q4 and Q5 of all bars, Q3 and Q5 in three or four voices, and Q6 anywhere
 abbrev pub may_cost : ℕ → Exercise → ℕ → Bool
 may_cost toll ex i =
     if toll == 3 then nat_le 3 ex.voices && begins_inner_bar ex i

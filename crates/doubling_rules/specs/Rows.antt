@@ -1,4 +1,5 @@
--- S23 and the tolls Q3 to Q6: what voices double, how far apart they lie, and where in its range each keeps.
+-- S23 and the tolls Q3 to Q6: what voices double, how far apart they lie, and where in its range
+-- each keeps.
 use Rattle.std.specs.Prelude.{ℕ, ◌+◌, ◌-◌, ◌/◌, ◌==◌, Bool, false, ◌&&◌, ◌||◌, nat_le, nat_lt, pos, List, Option, Some, None, if◌then◌else◌}
 use Rattle.std.specs.Int.{from_bool}
 use Rattle.std.specs.Ordering.{int_eq}
@@ -52,13 +53,14 @@ sounds_third now w = holds_of is_third (interval_in now 0 w)
 abbrev pub count_thirds : List Cell → ℕ
 count_thirds now = from_bool (sounds_third now 1) + from_bool (sounds_third now 2) + from_bool (sounds_third now 3)
 
--- Q3: in three or four voices, at the beginning of a bar that is neither the first nor the last, voice 0 sounds, and no voice sounds a
--- third with it
+-- Q3: in three or four voices, at the beginning of a bar that is neither the first nor the last,
+-- voice 0 sounds, and no voice sounds a third with it
 abbrev pub lacks_third : Exercise → ℕ → List Cell → Bool
 lacks_third ex i now =
     nat_le 3 ex.voices && begins_inner_bar ex i && sounds (cell_in now 0) && (count_thirds now == 0)
 
--- Q5: in three or four voices, at the beginning of a bar, two voices or more sound a third with voice 0
+-- Q5: in three or four voices, at the beginning of a bar, two voices or more sound a third with
+-- voice 0
 abbrev pub doubles_third : Exercise → ℕ → List Cell → Bool
 doubles_third ex i now = nat_le 3 ex.voices && begins_bar i && nat_le 2 (count_thirds now)
 
@@ -66,8 +68,8 @@ doubles_third ex i now = nat_le 3 ex.voices && begins_bar i && nat_le 2 (count_t
 abbrev pub are_far_apart : ℕ → List Cell → ℕ → ℕ → Bool
 are_far_apart most now v w = holds_of (λ k. nat_lt most (degrees_without_sign k)) (interval_in now v w)
 
--- Q4: at the beginning of a bar, the pairs of neighboring voices that lie too far apart: the two lowest more than 11 degrees, others
--- more than 7
+-- Q4: at the beginning of a bar, the pairs of neighboring voices that lie too far apart: the two
+-- lowest more than 11 degrees, others more than 7
 abbrev pub wide_pairs : ℕ → List Cell → ℕ
 wide_pairs i now =
     if begins_bar i
@@ -79,7 +81,8 @@ wide_pairs i now =
 abbrev pub middle_of : Pitch → Pitch → ℕ
 middle_of low high = (degree_of low + degree_of high) / 2
 
--- a pitch lies outside the middle sixth of a range, which goes from two degrees below its middle to three above it
+-- a pitch lies outside the middle sixth of a range, which goes from two degrees below its middle to
+-- three above it
 abbrev pub is_far_from : Pitch → Pitch → Pitch → Bool
 is_far_from low high p =
     nat_lt (degree_of p) (middle_of low high - 2) || nat_lt (middle_of low high + 3) (degree_of p)

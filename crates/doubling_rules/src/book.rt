@@ -11,7 +11,8 @@ use rule_law::{
     Form, LatePlaces, LateQuestion, Latest, NewestColumns, RuleCrate, begins_bar, begins_inner_bar,
 };
 
-/// The crate's rules and tolls keep the laws of a book: a theorem, which costs nothing when it's called.
+/// The crate's rules and tolls keep the laws of a book: a theorem, which costs nothing when it's
+/// called.
 #[tactic(auto, using(crate::proofs::BookLaws::keeps_laws))]
 pub fn book_is_lawful()
     ensures { KeepsLaws books.book }

@@ -30,7 +30,8 @@ pub(crate) fn is_before_last_bar(ex: &Exercise, i: usize) -> bool
     i / 8 + 2 == usize::from(ex.bars)
 }
 
-/// S23: whether in the bar before the last two voices both sound the leading note, and one of them starts it.
+/// S23: whether in the bar before the last two voices both sound the leading note, and one of them
+/// starts it.
 pub fn double_leading(ex: &Exercise, i: usize, now: &[Cell], v: usize, w: usize) -> bool
     ensures { result ≡ rows.double_leading ex.now i now.now v w }
 {
@@ -78,8 +79,8 @@ fn count_thirds(now: &[Cell]) -> u32
         + u32::from(sounds_third(now, 3))
 }
 
-/// Q3: whether, in three or four voices, voice 0 sounds at the beginning of a bar that is neither the first nor the last, and no voice
-/// sounds a third with it.
+/// Q3: whether, in three or four voices, voice 0 sounds at the beginning of a bar that is neither
+/// the first nor the last, and no voice sounds a third with it.
 pub fn lacks_third(ex: &Exercise, i: usize, now: &[Cell]) -> bool
     ensures { result ≡ rows.lacks_third ex.now i now.now }
 {
@@ -89,7 +90,8 @@ pub fn lacks_third(ex: &Exercise, i: usize, now: &[Cell]) -> bool
     is_sounding(cell_of(now, 0)) && count_thirds(now) == 0
 }
 
-/// Q5: whether, in three or four voices, two voices or more sound a third with voice 0 at the beginning of a bar.
+/// Q5: whether, in three or four voices, two voices or more sound a third with voice 0 at the
+/// beginning of a bar.
 pub fn doubles_third(ex: &Exercise, i: usize, now: &[Cell]) -> bool
     ensures { result ≡ rows.doubles_third ex.now i now.now }
 {
@@ -106,8 +108,8 @@ fn are_far_apart(most: u16, now: &[Cell], v: usize, w: usize) -> bool
     }
 }
 
-/// Q4: how many pairs of neighboring voices lie too far apart at the beginning of a bar: the two lowest more than 11 degrees, others
-/// more than 7.
+/// Q4: how many pairs of neighboring voices lie too far apart at the beginning of a bar: the two
+/// lowest more than 11 degrees, others more than 7.
 pub fn wide_pairs(i: usize, now: &[Cell]) -> u32
     ensures value { result ≡ rows.wide_pairs i now.now }
     ensures bound { result ≤ 3 }
@@ -129,7 +131,8 @@ fn is_far_from_middle(low: Pitch, high: Pitch, p: Pitch) -> bool
     degree < middle.saturating_sub(2) || degree > middle + 3
 }
 
-/// Whether a note starts in the cell of a free voice, outside the middle sixth of its range in the bar.
+/// Whether a note starts in the cell of a free voice, outside the middle sixth of its range in the
+/// bar.
 fn strays(ex: &Exercise, v: u8, i: usize, cell: Cell) -> bool
     requires valid { IsValid ex.now }
     requires free { IsFree ex.now v }
@@ -153,7 +156,8 @@ fn strays_in(ex: &Exercise, v: u8, i: usize, now: &[Cell]) -> bool
     is_free(ex, v) && strays(ex, v, i, cell_of(now, v as usize))
 }
 
-/// Q6: in how many free voices a note starts outside the middle sixth of the voice's range in the bar.
+/// Q6: in how many free voices a note starts outside the middle sixth of the voice's range in the
+/// bar.
 #[tactic(auto, unfolding(crate::specs::Rows::straying_notes))]
 pub fn straying_notes(ex: &Exercise, i: usize, now: &[Cell]) -> u32
     requires valid { IsValid ex.now }

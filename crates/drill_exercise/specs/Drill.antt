@@ -1,4 +1,5 @@
--- The exercise of a drill. Its cantus firmus goes from D4 over 21 degrees that numbers choose to E4 and D4.
+-- The exercise of a drill. Its cantus firmus goes from D4 over 21 degrees that numbers choose to E4
+-- and D4.
 use Rattle.std.specs.Prelude.{◌≡◌, ℕ, zero, suc, ◌+◌, ◌-◌, ◌*◌, ◌/◌, ◌%◌, ◌==◌, nat_le, if◌then◌else◌, List, [], ◌∷◌, ◌++◌, map, All, None, pos}
 use Rattle.fux_pitch.specs.declared.mode.Mode.TheVariants.{Dorian}
 use Rattle.fux_pitch.specs.declared.pitch.Pitch.{Pitch}
@@ -11,11 +12,13 @@ use Rattle.fux_grid.specs.Exercises.{IsValid}
 abbrev pub next_number : ℕ → ℕ
 next_number x = (5 * x + 3) % 1024
 
--- the degree so many steps below another one, or above it where that would be below D4, which has degree 29
+-- the degree so many steps below another one, or above it where that would be below D4, which has
+-- degree 29
 abbrev pub falls_by : ℕ → ℕ → ℕ
 falls_by size degree = if nat_le (29 + size) degree then degree - size else degree + size
 
--- the degree so many steps above another one, or below it where that would be above A4, which has degree 33
+-- the degree so many steps above another one, or below it where that would be above A4, which has
+-- degree 33
 abbrev pub rises_by : ℕ → ℕ → ℕ
 rises_by size degree = if nat_le (degree + size) 33 then degree + size else degree - size
 

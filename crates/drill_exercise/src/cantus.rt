@@ -86,7 +86,8 @@ fn moved(choice: u32, degree: u8) -> u8
 fn put(line: &mut Vec<Pitch>, degree: u8) -> Result<(), Memory>
     requires low { 29 ≤ degree }
     requires high { degree ≤ 38 }
-    ensures degrees { OnOk result (map degree_of line.new.items ≡ map degree_of line.old.items ++ degree ∷ []) }
+    ensures degrees { OnOk result (map degree_of line.new.items ≡ map degree_of line.old.items
+        ++ degree ∷ []) }
     ensures naturals { OnOk result (AreNaturals line.old.items → AreNaturals line.new.items) }
 {
     line.push(natural(degree))?;

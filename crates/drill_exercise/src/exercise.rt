@@ -14,8 +14,8 @@ const LOW: u8 = 31;
 /// The degree of F5, its highest.
 const HIGH: u8 = 38;
 
-/// The exercise with a number: dorian, two voices, 24 bars, a cantus firmus that the number chooses in the lower voice, and
-/// first species from F4 to F5 in the upper one.
+/// The exercise with a number: dorian, two voices, 24 bars, a cantus firmus that the number chooses
+/// in the lower voice, and first species from F4 to F5 in the upper one.
 pub fn drill(alloc: Global, n: u32) -> Result<Exercise<'static>, Memory>
     ensures { IfOk result (IsDrill n) }
 {

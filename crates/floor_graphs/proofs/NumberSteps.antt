@@ -1,5 +1,5 @@
--- A label more of a node (`least_more`), a node more of a graph (`least_push`), and what is checked of least numbers
--- (`checked_from_least`).
+-- A label more of a node (`least_more`), a node more of a graph (`least_push`), and what is checked
+-- of least numbers (`checked_from_least`).
 use Rattle.std.proofs.Common.{◌≡◌, ℕ, ◌+◌, ◌*◌, ◌^◌, ◌<◌, ◌≤◌, ◌⊎◌, inl, inr, ⊎_elim, Bool, true, false, List, [], ◌∷◌, ◌++◌, length, Option, Some, None, IsSomeAnd, option_map, min, refl, sym, ap, subst, ◌∙◌, arith, length-append}
 use Rattle.std.specs.Prelude.{IfSome}
 use Rattle.std.proofs.Math.ListN.{get_or-append}

@@ -1,5 +1,6 @@
 -- Where a bound of all leaves is known, what a search finds under a cap is found of the tree itself
--- (`first_from_capped`), and where it finds nothing all leaves are above the cap (`bounds_from_capped`).
+-- (`first_from_capped`), and where it finds nothing all leaves are above the cap
+-- (`bounds_from_capped`).
 use Rattle.std.proofs.Common.{◌≡◌, ℕ, ◌+◌, ◌≤◌, List, Option, Some, max, ap, ◌∙◌, subst, ⊎_elim, arith}
 use Rattle.std.proofs.lemmas.Bool.{cases_lt}
 use Rattle.tree_search.specs.Answer.{IsLeaf, IsFirstLeast, HasNoLeaf, BoundsLeaves}
@@ -13,7 +14,8 @@ module _ (live : List ℕ → Option ℕ) (height low high : ℕ) where
       let parts = capped_parts low high (live path) value leaf.1 in
       (parts.own, ((leaf.0, parts.is_own), (parts.within, parts.raised_is)))
 
-  -- a leaf of the tree whose value is from the bound up to the cap is one of the capped tree, of the same value
+  -- a leaf of the tree whose value is from the bound up to the cap is one of the capped tree, of
+  -- the same value
   pub leaf_to_capped : (path : List ℕ) (value : ℕ) → IsLeaf live height path value → low ≤ value → value ≤ high
       → IsLeaf (capped live low high) height path value
   leaf_to_capped path value leaf least most =

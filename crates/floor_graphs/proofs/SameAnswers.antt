@@ -1,5 +1,5 @@
--- What a search finds in a sharpened tree is so of the tree itself (`found_from_sharpened`, `bounds_from_sharpened`),
--- and what was found agrees with every answer (`agrees_from_facts`).
+-- What a search finds in a sharpened tree is so of the tree itself (`found_from_sharpened`,
+-- `bounds_from_sharpened`), and what was found agrees with every answer (`agrees_from_facts`).
 use Rattle.std.proofs.Common.{◌≡◌, ℕ, ◌+◌, List, Option, Some, None, IsSome, refl, arith}
 use Rattle.tree_search.specs.Answer.{IsLeaf, IsFirstLeast, HasNoLeaf, BoundsLeaves, IsLoaded, IsLiveBelowRoot, IsOverBudget}
 use Rattle.tree_search.specs.Outcomes.{IfFound, IfSpent, IsSpent, OnNothing}

@@ -9,8 +9,8 @@ pub record IsLiveChild (stands is_at : List ℕ → Type 0) (live : List ℕ →
   pub at : is_at (path ++ child ∷ [])
   pub is_live : IsSome (live (path ++ child ∷ []))
 
--- what was found is the sum of the child of this number, with a place that belongs to it, or nothing where it has no sum; whatever
--- path the place belongs to
+-- what was found is the sum of the child of this number, with a place that belongs to it, or
+-- nothing where it has no sum; whatever path the place belongs to
 abbrev pub IsFollowed : {P : Type 0} → (P → List ℕ → Type 0) → (List ℕ → Option ℕ) → P → (List ℕ → Type 0)
     → (List ℕ → Option ℕ) → ℕ → Option (P × ℕ) → Type 0
 IsFollowed stands sum place is_at live child found =

@@ -1,5 +1,6 @@
--- Checked numbers give floors (`floors_from_numbers`), and floors of several cases do (`floors_from_cases`). A tree whose floors are sharpened by floors keeps the law of
--- floors (`sharpened_grows`) and has the same leaves (`leaf_to_sharpened`, `leaf_from_sharpened`).
+-- Checked numbers give floors (`floors_from_numbers`), and floors of several cases do
+-- (`floors_from_cases`). A tree whose floors are sharpened by floors keeps the law of floors
+-- (`sharpened_grows`) and has the same leaves (`leaf_to_sharpened`, `leaf_from_sharpened`).
 use Rattle.std.specs.Prelude.{◌≡◌, ℕ, zero, suc, ◌+◌, ◌-◌, ◌*◌, ◌/◌, ◌<◌, ◌≤◌, ◌++◌, [], ◌∷◌, List, Option, Some, None, IsSome, IsSomeAnd, option_map, max}
 use Rattle.std.proofs.Common.{⊎_elim, refl, sym, ap, ap₂, subst, ◌∙◌, arith, append_assoc, append-nil}
 use Rattle.std.proofs.Math.Nat.{div-lt_iff_lt-mul}
@@ -92,7 +93,8 @@ module _ {live : List ℕ → Option ℕ} {height : ℕ} where
 
 -- ---- what holds of several trees
 
--- where each leaf of a tree is one of a case of it, and each case has floors, the least of these are floors of the tree
+-- where each leaf of a tree is one of a case of it, and each case has floors, the least of these
+-- are floors of the tree
 pub floors_from_cases : (live : List ℕ → Option ℕ) (height count : ℕ) (case sum : ℕ → List ℕ → Option ℕ)
     → ((path : List ℕ) (value : ℕ) → IsLeaf live height path value
     → (k : ℕ) × (k < count) × IsLeaf (case k) height path value)

@@ -24,7 +24,8 @@ IsEndBelow is_end nodes node = (node < nodes) × (is_end node ≡ true)
 abbrev pub number_in : List (Option ℕ) → ℕ → Option ℕ
 number_in numbers node = slice_index_or numbers node None
 
--- what a step costs with the number behind it; none where there is no such step, or no number behind it
+-- what a step costs with the number behind it; none where there is no such step, or no number
+-- behind it
 abbrev pub sum_behind : (ℕ → Option ℕ) → Option Step → Option ℕ
 sum_behind number None = None
 sum_behind number (Some step) = option_map (λ behind. step.1 + behind) (number step.0)
@@ -40,7 +41,8 @@ pub record IsLeastBelow (sum : ℕ → Option ℕ) (bound : ℕ) (own : Option �
   pub low : (label x : ℕ) → label < bound → sum label ≡ Some x → IsSomeAnd own (λ least. least ≤ x)
   pub reached : (least : ℕ) → own ≡ Some least → (label : ℕ) × (label < bound) × (sum label ≡ Some least)
 
--- the number of a node: 0 where the graph ends, else the least of what its edges cost with the numbers behind them
+-- the number of a node: 0 where the graph ends, else the least of what its edges cost with the
+-- numbers behind them
 abbrev pub IsNumber : Bool → (ℕ → Option Step) → ℕ → (ℕ → Option ℕ) → Option ℕ → Type 0
 IsNumber true edge width number own = own ≡ Some 0
 IsNumber false edge width number own = IsLeastBelow (λ label. sum_behind number (edge label)) width own

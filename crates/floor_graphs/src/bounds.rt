@@ -15,7 +15,8 @@ const FIRST_BUDGET: u32 = 1_024;
 /// How many rounds there are at most.
 const ROUNDS: usize = 32;
 
-/// How many rounds look for one value each. From then on each looks for twice as many as the round before.
+/// How many rounds look for one value each. From then on each looks for twice as many as the round
+/// before.
 const SINGLE_ROUNDS: usize = 16;
 
 /// How many values a round looks for beyond the least.
@@ -28,8 +29,9 @@ fn more_values(round: usize) -> u64
     (2u64 << (round - SINGLE_ROUNDS)) - 1
 }
 
-/// Searches in depth below a cap, where that finds nothing below a higher one, and so on: the bound of all leaves then lies
-/// above the cap before. Each round has the whole budget. The outcome is never `Nothing`.
+/// Searches in depth below a cap, where that finds nothing below a higher one, and so on: the bound
+/// of all leaves then lies above the cap before. Each round has the whole budget. The outcome is
+/// never `Nothing`.
 fn search_rounds<S: Space>(
     alloc: Global,
     space: &S,
@@ -37,9 +39,12 @@ fn search_rounds<S: Space>(
     budget: u32,
 ) -> Result<Outcome, Memory>
     requires { BoundsLeaves (S.live space.now) (S.height space.now) bound }
-    ensures found { IfOk result (λ outcome. IfFound outcome (IsFirstLeast (S.live space.now) (S.height space.now))) }
-    ensures nothing { IfOk result (λ outcome. OnNothing outcome (HasNoLeaf (S.live space.now) (S.height space.now))) }
-    ensures bound { IfOk result (λ outcome. IfSpent outcome (BoundsLeaves (S.live space.now) (S.height space.now))) }
+    ensures found { IfOk result (λ outcome. IfFound outcome (IsFirstLeast (S.live space.now)
+        (S.height space.now))) }
+    ensures nothing { IfOk result
+        (λ outcome. OnNothing outcome (HasNoLeaf (S.live space.now) (S.height space.now))) }
+    ensures bound { IfOk result (λ outcome. IfSpent outcome (BoundsLeaves (S.live space.now)
+        (S.height space.now))) }
 {
     let mut low = bound;
     for round in 0..ROUNDS {
@@ -57,19 +62,24 @@ fn search_rounds<S: Space>(
     Ok(Outcome::Spent { bound: low })
 }
 
-/// The first leaf of least value. A front opens each node whose floor is at most that value, and where floors are sharp there
-/// may be very many of the very same floor. So here a front has a small part of the budget at first, for a bound of all leaves.
-/// Then come rounds in depth, which leave out what is above a cap: where the bound is the least value, a round is done with the
-/// first leaf that it meets. They look for one value after another at first, and for more and more at once later on, so that a
-/// tree without leaves doesn't take too many of them. Each may spend the whole budget. Where they come to nothing, the front
-/// has the whole budget.
+/// The first leaf of least value. A front opens each node whose floor is at most that value, and
+/// where floors are sharp there may be very many of the very same floor. So here a front has a
+/// small part of the budget at first, for a bound of all leaves. Then come rounds in depth, which
+/// leave out what is above a cap: where the bound is the least value, a round is done with the
+/// first leaf that it meets. They look for one value after another at first, and for more and more
+/// at once later on, so that a tree without leaves doesn't take too many of them. Each may spend
+/// the whole budget. Where they come to nothing, the front has the whole budget.
 pub fn search_by_bounds<S: Space>(alloc: Global, space: &S, budget: u32) -> Result<Outcome, Memory>
-    ensures found { IfOk result (λ outcome. IfFound outcome (IsFirstLeast (S.live space.now) (S.height space.now))) }
-    ensures nothing { IfOk result (λ outcome. OnNothing outcome (HasNoLeaf (S.live space.now) (S.height space.now))) }
-    ensures bound { IfOk result (λ outcome. IfSpent outcome (BoundsLeaves (S.live space.now) (S.height space.now))) }
+    ensures found { IfOk result (λ outcome. IfFound outcome (IsFirstLeast (S.live space.now)
+        (S.height space.now))) }
+    ensures nothing { IfOk result
+        (λ outcome. OnNothing outcome (HasNoLeaf (S.live space.now) (S.height space.now))) }
+    ensures bound { IfOk result (λ outcome. IfSpent outcome (BoundsLeaves (S.live space.now)
+        (S.height space.now))) }
 
     // It ends wherever the front does.
-    ensures over { IfOk result (λ outcome. IsSpent outcome → IsOverBudget (S.live space.now) (S.height space.now) budget) }
+    ensures over { IfOk result (λ outcome. IsSpent outcome → IsOverBudget (S.live space.now)
+        (S.height space.now) budget) }
     ensures agrees { IfOk result (AgreesWithAnswers (S.live space.now) (S.height space.now)) }
 {
     let bound = match search_front(alloc, space, budget.min(FIRST_BUDGET))? {

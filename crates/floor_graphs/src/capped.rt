@@ -2,8 +2,9 @@
 
 use tree_search::Space;
 
-/// A space without the nodes whose floors are above `high`. The other floors are raised to `low`, which may be known to be a
-/// bound of all leaves: then a search is done with the first leaf of this value that it meets.
+/// A space without the nodes whose floors are above `high`. The other floors are raised to `low`,
+/// which may be known to be a bound of all leaves: then a search is done with the first leaf of
+/// this value that it meets.
 #[derive(Drop)]
 pub struct Capped<'a, S: Space> {
     pub space: &'a S,
@@ -37,8 +38,8 @@ impl<'a, S: Space> Capped<'a, S> {
         }
     }
 
-    /// The value that the space may take for the best: what is no better than that is above the cap, or no better than the
-    /// best.
+    /// The value that the space may take for the best: what is no better than that is above the
+    /// cap, or no better than the best.
     fn best_below_cap(&self, best: Option<u64>) -> Option<u64>
         ensures { (floor : ℕ) → floor ≤ self.now.high → IsSomeAnd result (λ value. value ≤ floor)
             → IsSomeAnd best (λ value. value ≤ floor) }

@@ -6,9 +6,11 @@ ghost use Rattle.floor_graphs.specs.Graphs.{AreChecked};
 use fux_pitch::Memory;
 use std::alloc::Global;
 
-/// A graph whose nodes are numbered so that each edge leads back, to a node of lower number. Edges are made as they are asked for.
+/// A graph whose nodes are numbered so that each edge leads back, to a node of lower number. Edges
+/// are made as they are asked for.
 pub trait Graph {
-    /// The edge of a node under a label: the node that it leads to, and what it costs. None where there is no such edge.
+    /// The edge of a node under a label: the node that it leads to, and what it costs. None where
+    /// there is no such edge.
     ghost edge_at: { Self → ℕ → ℕ → Option Step };
 
     /// How many labels the edges of a node have.
@@ -55,7 +57,8 @@ pub fn lesser(one: Option<u64>, other: Option<u64>) -> Option<u64>
     }
 }
 
-/// What an edge costs with the number behind it; none where there is no such edge, or no number behind it.
+/// What an edge costs with the number behind it; none where there is no such edge, or no number
+/// behind it.
 fn sum_by<G: Graph>(graph: &G, numbers: &[Option<u64>], node: u32, label: usize) -> Option<u64>
     requires node { node < G.nodes graph.now }
     requires label { label < G.width graph.now node }
@@ -74,8 +77,8 @@ fn number_of<G: Graph>(graph: &G, numbers: &[Option<u64>], node: u32) -> Option<
     requires node { node < G.nodes graph.now }
     requires earlier { length numbers.now ≡ node }
     requires small { AreSmall numbers.now }
-    ensures number { IsNumber (G.ends_at graph.now node) (G.edge_at graph.now node) (G.width graph.now node)
-        (number_in numbers.now) result }
+    ensures number { IsNumber (G.ends_at graph.now node) (G.edge_at graph.now node)
+        (G.width graph.now node) (number_in numbers.now) result }
     ensures small { IfSome result (λ sum. sum ≤ node * 2 ^ 32) }
 {
     if graph.is_end(node) {
@@ -88,12 +91,14 @@ fn number_of<G: Graph>(graph: &G, numbers: &[Option<u64>], node: u32) -> Option<
     least
 }
 
-/// The number of each node: the least sum of its ways to an end, and none where no way leads to one.
+/// The number of each node: the least sum of its ways to an end, and none where no way leads to
+/// one.
 pub fn least_numbers<G: Graph>(alloc: Global, graph: &G) -> Result<Vec<Option<u64>>, Memory>
-    ensures least { IfOk result (λ numbers.
-        AreLeast (G.edge_at graph.now) (G.width graph.now) (G.ends_at graph.now) (G.nodes graph.now) numbers.items) }
-    ensures checked { IfOk result (λ numbers.
-        AreChecked (is_edge_by (G.edge_at graph.now)) (λ node. IsEndBelow (G.ends_at graph.now) (G.nodes graph.now) node) (number_in numbers.items)) }
+    ensures least { IfOk result (λ numbers. AreLeast (G.edge_at graph.now) (G.width graph.now)
+        (G.ends_at graph.now) (G.nodes graph.now) numbers.items) }
+    ensures checked { IfOk result (λ numbers. AreChecked (is_edge_by (G.edge_at graph.now))
+        (λ node. IsEndBelow (G.ends_at graph.now) (G.nodes graph.now) node)
+        (number_in numbers.items)) }
     ensures small { IfOk result (λ numbers. AreSmall numbers.items) }
 {
     let size = graph.size();

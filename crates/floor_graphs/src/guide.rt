@@ -6,9 +6,10 @@ ghost use Rattle.floor_graphs.specs.Guides.{IsFollowed, IsLiveChild};
 
 use tree_search::Space;
 
-/// Floors of the paths of a space, beside its own: the sum of a path is at most the value of each leaf below it, and a path without a sum has
-/// no leaf below it. A sum may be what a path has paid with the number of a graph's node, as `Graphs` says, or the least such sum of several
-/// graphs; how it was found is all one.
+/// Floors of the paths of a space, beside its own: the sum of a path is at most the value of each
+/// leaf below it, and a path without a sum has no leaf below it. A sum may be what a path has paid
+/// with the number of a graph's node, as `Graphs` says, or the least such sum of several graphs;
+/// how it was found is all one.
 pub trait Guide {
     type Tree: Space;
 
@@ -39,7 +40,8 @@ pub trait Guide {
         k: usize,
         child: &<Self::Tree as Space>::Node,
     ) -> Option<(Self::Place, u64)>
-        requires { IsLiveChild (stands self.now place.now) (Self.Tree.is_at (tree self.now) child.now) (Self.Tree.live (tree self.now)) k }
+        requires { IsLiveChild (stands self.now place.now) (Self.Tree.is_at (tree self.now)
+            child.now) (Self.Tree.live (tree self.now)) k }
         ensures { IsFollowed (stands self.now) (sum self.now) place.now
             (Self.Tree.is_at (tree self.now) child.now) (Self.Tree.live (tree self.now)) k result };
 

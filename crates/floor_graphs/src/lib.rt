@@ -1,5 +1,5 @@
-//! Floors of a tree from the numbers of a graph to which its paths are mapped. What is asked of the numbers is that they pass a check,
-//! however they were found.
+//! Floors of a tree from the numbers of a graph to which its paths are mapped. What is asked of the
+//! numbers is that they pass a check, however they were found.
 #![tactic(auto)]
 
 mod bounds;

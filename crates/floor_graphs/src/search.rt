@@ -13,23 +13,26 @@ use fux_pitch::Memory;
 use std::alloc::Global;
 use tree_search::Outcome;
 
-/// The first leaf of least value of the guide's space, by bounds over its sharpened floors (`search_by_bounds`). Where the
-/// budget is enough the answer is that of any search of the space itself; where it isn't, each leaf has at least the bound
-/// for a value.
+/// The first leaf of least value of the guide's space, by bounds over its sharpened floors
+/// (`search_by_bounds`). Where the budget is enough the answer is that of any search of the space
+/// itself; where it isn't, each leaf has at least the bound for a value.
 pub fn search_sharpened<G: Guide>(alloc: Global, guide: &G, budget: u32) -> Result<Outcome, Memory>
-    ensures found { IfOk result (λ outcome.
-        IfFound outcome (IsFirstLeast (G.Tree.live (G.tree guide.now)) (G.Tree.height (G.tree guide.now)))) }
-    ensures nothing { IfOk result (λ outcome.
-        OnNothing outcome (HasNoLeaf (G.Tree.live (G.tree guide.now)) (G.Tree.height (G.tree guide.now)))) }
-    ensures bound { IfOk result (λ outcome.
-        IfSpent outcome (BoundsLeaves (G.Tree.live (G.tree guide.now)) (G.Tree.height (G.tree guide.now)))) }
+    ensures found { IfOk result (λ outcome. IfFound outcome (IsFirstLeast (G.Tree.live (G.tree guide.now))
+        (G.Tree.height (G.tree guide.now)))) }
+    ensures nothing { IfOk result (λ outcome. OnNothing outcome (HasNoLeaf (G.Tree.live (G.tree guide.now))
+        (G.Tree.height (G.tree guide.now)))) }
+    ensures bound { IfOk result (λ outcome. IfSpent outcome (BoundsLeaves (G.Tree.live (G.tree guide.now))
+        (G.Tree.height (G.tree guide.now)))) }
 
-    // It ends wherever a front over the sharpened floors does, and so wherever one over the space's own floors does.
-    ensures sharp { IfOk result (λ outcome. IsSpent outcome → IsOverBudget
-        (sharpened (G.Tree.live (G.tree guide.now)) (G.sum guide.now)) (G.Tree.height (G.tree guide.now)) budget) }
+    // It ends wherever a front over the sharpened floors does, and so wherever one over the space's
+    // own floors does.
+    ensures sharp { IfOk result (λ outcome. IsSpent outcome
+        → IsOverBudget (sharpened (G.Tree.live (G.tree guide.now)) (G.sum guide.now))
+        (G.Tree.height (G.tree guide.now)) budget) }
     ensures over { IfOk result (λ outcome. IsSpent outcome
         → IsOverBudget (G.Tree.live (G.tree guide.now)) (G.Tree.height (G.tree guide.now)) budget) }
-    ensures agrees { IfOk result (AgreesWithAnswers (G.Tree.live (G.tree guide.now)) (G.Tree.height (G.tree guide.now))) }
+    ensures agrees { IfOk result (AgreesWithAnswers (G.Tree.live (G.tree guide.now))
+        (G.Tree.height (G.tree guide.now))) }
 {
     search_by_bounds(alloc, &Sharpened { guide }, budget)
 }

@@ -3,8 +3,9 @@
 use crate::guide::Guide;
 use tree_search::Space;
 
-/// The space of a guide, with the same leaves, values and order. The floor of a node is the greatest of the space's floors and of the
-/// guide's sums on the way to it, and a node is dead too where there is no sum on the way to it.
+/// The space of a guide, with the same leaves, values and order. The floor of a node is the
+/// greatest of the space's floors and of the guide's sums on the way to it, and a node is dead too
+/// where there is no sum on the way to it.
 #[derive(Drop)]
 pub struct Sharpened<'a, G: Guide> {
     pub guide: &'a G,

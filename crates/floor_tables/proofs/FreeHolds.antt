@@ -1,4 +1,5 @@
--- Where no bar begins, a column that holds all it sounds costs nothing behind any other (`holding_is_free`): nothing starts in it.
+-- Where no bar begins, a column that holds all it sounds costs nothing behind any other
+-- (`holding_is_free`): nothing starts in it.
 use Rattle.std.proofs.Common.{◌≡◌, ℕ, true, false, ◌&&◌, List, [], ◌∷◌, Some, refl, ap, sym, ◌∙◌}
 use Rattle.std.specs.Prelude.{not}
 use Rattle.std.specs.List.{list_any}

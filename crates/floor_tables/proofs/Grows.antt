@@ -1,5 +1,6 @@
--- Floors don't fall: where a live prefix is longer by a column than another, that one is live too (`live_before`), and its floor is
--- no higher (`floor_grows`). At the end nothing is left to pay (`rest_at_end`).
+-- Floors don't fall: where a live prefix is longer by a column than another, that one is live too
+-- (`live_before`), and its floor is no higher (`floor_grows`). At the end nothing is left to pay
+-- (`rest_at_end`).
 use Rattle.std.specs.Prelude.{◌≡◌, ℕ, suc, ◌+◌, ◌-◌, ◌<◌, ◌≤◌, false, List, [], ◌∷◌, ◌++◌, Option, Some, None, IsSome, IsSomeAnd, length, option_map, reverse, refl}
 use Rattle.std.specs.List.{Contains, list_any}
 use Rattle.std.proofs.Common.{ap, sym, ◌∙◌, subst, arith}

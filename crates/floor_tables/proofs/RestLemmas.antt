@@ -1,5 +1,5 @@
--- What the tables answer is the rest of each prefix that they are asked about: of one that ends with the column (`rest_is`), and of
--- the empty one (`start_is`).
+-- What the tables answer is the rest of each prefix that they are asked about: of one that ends
+-- with the column (`rest_is`), and of the empty one (`start_is`).
 use Rattle.std.proofs.Common.{◌≡◌, ℕ, suc, ◌+◌, ◌-◌, ◌≤◌, List, [], ◌∷◌, ◌++◌, length, Option, Some, None, ap, sym, ◌∙◌, arith}
 use Rattle.std.proofs.lemmas.List.{length-append}
 use Rattle.fux_grid.specs.declared.cell.Cell.{Cell}

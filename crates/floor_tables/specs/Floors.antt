@@ -1,5 +1,6 @@
--- Floors: what every setting that a prefix begins still costs. A prefix is live where no strict break is settled in it and a chain of
--- columns goes on from it to the end; its floor is what is paid, what its lines come to at least, and the least sum over such chains.
+-- Floors: what every setting that a prefix begins still costs. A prefix is live where no strict
+-- break is settled in it and a chain of columns goes on from it to the end; its floor is what is
+-- paid, what its lines come to at least, and the least sum over such chains.
 use Rattle.std.specs.Prelude.{◌≡◌, ℕ, ◌+◌, ◌-◌, false, List, Option, IsSome, length, option_map}
 use Rattle.fux_grid.specs.declared.cell.Cell.{Cell}
 use Rattle.fux_grid.specs.declared.exercise.Exercise.{Exercise}
@@ -13,7 +14,8 @@ use Rattle.fux_judge.specs.Penalties.{has_strict_break, paid}
 use Rattle.chain_sums.specs.Chains.{Chains}
 use Rattle.chain_sums.specs.Sums.{least_sum}
 
--- the chains of an exercise: columns of its menus, and what two neighbors cost by the rules and tolls that read no more
+-- the chains of an exercise: columns of its menus, and what two neighbors cost by the rules and
+-- tolls that read no more
 abbrev pub chains_of : Exercise → Sheet → Chains
 chains_of ex sheet = record {
   voices = ex.voices;

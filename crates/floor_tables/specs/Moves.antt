@@ -1,4 +1,5 @@
--- What two columns cost is no less than what the second costs by itself and what the moves of the voices cost.
+-- What two columns cost is no less than what the second costs by itself and what the moves of the
+-- voices cost.
 use Rattle.std.specs.Prelude.{◌≡◌, ℕ, ◌+◌, ◌≤◌, List, Option, Some, None, IsSomeAnd}
 use Rattle.std.proofs.Common.{ap, sym, ◌∙◌, refl, subst, arith}
 use Rattle.fux_grid.specs.declared.cell.Cell.{Cell}

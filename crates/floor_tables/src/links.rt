@@ -102,7 +102,8 @@ impl<'a> Links for ColumnLinks<'a> {
         true
     }
 
-    // where no bar begins, no rule and no toll of neighbors speaks of a column in which nothing starts
+    // where no bar begins, no rule and no toll of neighbors speaks of a column in which nothing
+    // starts
     fn holds_freely(&self, i: usize) -> bool {
         !begins_bar(i)
     }

@@ -16,8 +16,8 @@ use std::alloc::Global;
 use std::marker::Model;
 use std::thread::Threads;
 
-/// For each column of an exercise's menus the least that the columns behind it cost together, by the rules and tolls that read no
-/// more than two neighbors.
+/// For each column of an exercise's menus the least that the columns behind it cost together, by
+/// the rules and tolls that read no more than two neighbors.
 #[derive(Drop)]
 pub struct Tables<'a> {
     exercise: &'a Exercise<'a>,
@@ -41,8 +41,8 @@ impl<'a> Model for Tables<'a> {
 /// How many columns of a row one thread works.
 const PIECE: usize = 2048;
 
-/// The tables of an exercise by a sheet, each row worked in pieces of so many columns. They are the same for every piece and every
-/// gate. All memory is taken here.
+/// The tables of an exercise by a sheet, each row worked in pieces of so many columns. They are the
+/// same for every piece and every gate. All memory is taken here.
 pub fn tables_cut<'a, R: Threads + Sync, G: Gate>(
     rt: &R,
     alloc: Global,
@@ -82,7 +82,8 @@ pub fn fill_tables<'a, R: Threads + Sync>(
 }
 
 impl<'a> Tables<'a> {
-    /// The least sum over the chains that go on behind a column of place `i`. None exactly where no chain reaches the end.
+    /// The least sum over the chains that go on behind a column of place `i`. None exactly where no
+    /// chain reaches the end.
     pub fn rest(&self, i: usize, col: &Column) -> Option<u64>
         requires place { i < columns_in self.now.exercise }
         requires choice { Contains (menu_of self.now.exercise i) col.now.items }

@@ -1,4 +1,5 @@
-//! Composes and marks species counterpoint: `fux compose EX`, `fux mark EX`, and the other commands of `docs/formats.md`.
+//! Composes and marks species counterpoint: `fux compose EX`, `fux mark EX`, and the other commands
+//! of `docs/formats.md`.
 #![tactic(auto)]
 
 ghost use Rattle.std.specs.Prelude.{◌≡◌, ◌≢◌};
@@ -47,7 +48,8 @@ impl<R: Env> Env for BehindName<'_, R> {
     }
 }
 
-/// The words on the command line behind the program's name. The name is never read, and may be any bytes.
+/// The words on the command line behind the program's name. The name is never read, and may be any
+/// bytes.
 fn words_after_name<R: Env + AllocGlobal>(rt: &R) -> io::Result<Vec<String>> {
     let alloc: Global = rt.alloc();
     let words = env::args(&(BehindName { process: rt }, alloc))?.collect(alloc)?;

@@ -261,7 +261,8 @@ AllPairs-map {X} {Y} Q R f keeps (x ∷ xs) h =
     subst P (sym (get_or-map f xs k x d l)) (keeps x (get_or xs k x) (h 0 (suc k) x (omega arith) (omega arith))))
     (AllPairs-map Q R f keeps xs (AllPairs-tail Q x xs h))
 
--- one list more of a combination that is made cell by cell: `x` is the list at place j, and `size` the number of combinations of the lists from there on
+-- one list more of a combination that is made cell by cell: `x` is the list at place j, and `size`
+-- the number of combinations of the lists from there on
 pub splits_list : (lists : List (ArrayVec Cell)) (j : ℕ) (x : ArrayVec Cell) (size count rest : ℕ) → j < length lists
     → x ≡ get_or lists j x → count ≡ length x.items → size ≡ length (combinations (items_of (drop j lists)))
     → rest < size → SplitsPlace x.items (items_of (drop (j + 1) lists)) rest (size / count)

@@ -164,7 +164,8 @@ module _ (s : List (List Cell)) (v : ℕ) where
       let ge = a.latest n b.is_note b.over in
       IsNote-same m n a.is_note b.is_note (omega arith)
 
-  -- a note that is over at a column started before the note there, where this begins at b, or before b where the voice rests
+  -- a note that is over at a column started before the note there, where this begins at b, or
+  -- before b where the voice rests
   pub over-before : (b i : ℕ) → is_hold (cell_at s v b) ≡ false
       → ((k : ℕ) → b < k → k ≤ i → IsTrue (is_hold (cell_at s v k))) → b ≤ i → (n : Note) → IsNote s v n
       → n.start + n.len ≤ i → n.start < b
@@ -218,7 +219,8 @@ latest_more : (s : List (List Cell)) (v n : ℕ) → is_start (cell_at s v n) �
 latest_more s v n e None h = no_start_more s v 0 n e h
 latest_more s v n e (Some note) h = (h.0, omega (arith, h.1), no_start_more s v (note.start + 1) n e h.2)
 
--- the first of the notes of a line is the latest note, where so many holds and then no hold come after the line
+-- the first of the notes of a line is the latest note, where so many holds and then no hold come
+-- after the line
 latest_of_line : (s : List (List Cell)) (v n held : ℕ) → n ≤ length s
     → ((k : ℕ) → n ≤ k → k < n + held → IsTrue (is_hold (cell_at s v k))) → is_hold (cell_at s v (n + held)) ≡ false
     → IsLatest s v n (first_of (notes_from held (line v (earlier s n))))
@@ -261,7 +263,8 @@ latest_of_line s v (suc n) held h holds ends =
           λ k a b. absurd (omega arith),
         )
 
--- where a note or a rest begins at b and goes on to i, the latest note of the line before b is the previous note
+-- where a note or a rest begins at b and goes on to i, the latest note of the line before b is the
+-- previous note
 pub previous-from_line : (s : List (List Cell)) (v b i : ℕ) → b ≤ i → i < length s → is_hold (cell_at s v b) ≡ false
     → ((k : ℕ) → b < k → k ≤ i → IsTrue (is_hold (cell_at s v k)))
     → MatchOption (first_of (notes_from 0 (line v (earlier s b))))

@@ -61,14 +61,16 @@ before_note (Rest ∷ cs) = cs
 before_note (Hold p ∷ cs) = before_note cs
 before_note (Start p ∷ cs) = cs
 
--- the notes of a line from the newest to the oldest, where so many holds of the newest one came after the line
+-- the notes of a line from the newest to the oldest, where so many holds of the newest one came
+-- after the line
 abbrev pub notes_from : ℕ → List Cell → List Note
 notes_from held [] = []
 notes_from held (Rest ∷ cs) = notes_from 0 cs
 notes_from held (Hold p ∷ cs) = notes_from (suc held) cs
 notes_from held (Start p ∷ cs) = record { start = length cs; len = suc held; pitch = p } ∷ notes_from 0 cs
 
--- where notes start in a line that goes from the oldest cell to the newest, where so many columns stand before it
+-- where notes start in a line that goes from the oldest cell to the newest, where so many columns
+-- stand before it
 abbrev pub onsets_from : ℕ → List Cell → List Onset
 onsets_from at [] = []
 onsets_from at (Rest ∷ cs) = onsets_from (suc at) cs

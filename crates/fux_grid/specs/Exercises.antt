@@ -44,7 +44,8 @@ pub record IsFree (ex : Exercise) (v : ℕ) : Type 0 where
 abbrev pub is_mixed : Exercise → Bool
 is_mixed ex = is_some ex.mixed
 
--- the species of a voice: where they are mixed its own, else the exercise's for the species voice and 1 for the others
+-- the species of a voice: where they are mixed its own, else the exercise's for the species voice
+-- and 1 for the others
 abbrev pub species_in : Exercise → ℕ → ℕ
 species_in ex v =
     option_map_or (λ species. slice_index_or species v 1) ex.mixed (if v == ex.species_voice then ex.species else 1)
@@ -53,7 +54,8 @@ species_in ex v =
 abbrev pub IsSpecies : ℕ → Type 0
 IsSpecies n = (1 ≤ n) × (n ≤ 5)
 
--- these may be the species of the exercise's voices: one of the five for each free voice, and 1 for the cantus
+-- these may be the species of the exercise's voices: one of the five for each free voice, and 1 for
+-- the cantus
 pub record AreSpecies (ex : Exercise) (species : List ℕ) : Type 0 where
   pub free : (v : ℕ) → IsFree ex v → IsSpecies (slice_index_or species v 1)
   pub cantus : slice_index_or species ex.cantus_voice 1 ≡ 1
@@ -66,7 +68,8 @@ as_mixed ex species = record ex { mixed = Some species; setting = None }
 abbrev pub AreBars : Exercise → ℕ → ℕ → Type 0
 AreBars ex from to = (1 ≤ from) × (from ≤ to) × (to ≤ ex.bars)
 
--- a range line is of a free voice and of bars of the exercise, and its high end isn't below its low end
+-- a range line is of a free voice and of bars of the exercise, and its high end isn't below its low
+-- end
 pub record IsRangeLine (ex : Exercise) (line : RangeLine) : Type 0 where
   pub free : IsFree ex line.voice
   pub rises : key_of line.low ≤ℤ key_of line.high
@@ -81,7 +84,8 @@ abbrev pub BeginsWithWhole : List RangeLine → Type 0
 BeginsWithWhole [] = ⊥
 BeginsWithWhole (line ∷ lines) = (line.bars ≡ None) × All (λ other. IsSome other.bars) lines
 
--- a relax line is of a rule from 4 on, of voices of the exercise and of its bars, at a price within the limit
+-- a relax line is of a rule from 4 on, of voices of the exercise and of its bars, at a price within
+-- the limit
 pub record IsRelax (ex : Exercise) (line : Relax) : Type 0 where
   pub least_rule : 4 ≤ line.rule
   pub most_rule : line.rule ≤ greatest_rule
@@ -89,8 +93,8 @@ pub record IsRelax (ex : Exercise) (line : Relax) : Type 0 where
   pub within : AreBars ex line.from line.to
   pub price : line.price ≤ 10000
 
--- a bar that is given is of a free voice and of a bar of the exercise; a bar may begin with a tie, and no held pitch stands behind anything but
--- itself
+-- a bar that is given is of a free voice and of a bar of the exercise; a bar may begin with a tie,
+-- and no held pitch stands behind anything but itself
 pub record IsGivenBar (ex : Exercise) (line : GivenBar) : Type 0 where
   pub free : IsFree ex line.voice
   pub within : AreBars ex line.bar line.bar
@@ -109,7 +113,8 @@ given_at ex i v = option_map_or (λ line. slice_index_or line.cells (slot_of i) 
 abbrev pub FitsGiven : Exercise → List (List Cell) → Type 0
 FitsGiven ex s = (i v : ℕ) → i < length s → v < ex.voices → IsTrue (fits (given_at ex i v) (cell_in (slice_index_or s i []) v))
 
--- the one cell that the cantus may have at a column: its pitch starts at slot 0 and is held elsewhere
+-- the one cell that the cantus may have at a column: its pitch starts at slot 0 and is held
+-- elsewhere
 abbrev pub cantus_cell : ℕ → Pitch → Cell
 cantus_cell i p = if slot_of i == 0 then Start p else Hold p
 

@@ -8,7 +8,8 @@ use Rattle.fux_grid.specs.declared.given.Given.TheVariants.{Blank, Rest, Tied, H
 use Rattle.fux_grid.specs.declared.given.GivenBar.{GivenBar}
 use Rattle.fux_grid.specs.Cells.{is_hold, same_cell}
 
--- a cell fits what is given: any cell where nothing is, any note that goes on where a tie is, and otherwise the same cell
+-- a cell fits what is given: any cell where nothing is, any note that goes on where a tie is, and
+-- otherwise the same cell
 abbrev pub fits : Given → Cell → Bool
 fits Blank c = true
 fits Tied c = is_hold c
@@ -16,7 +17,8 @@ fits Rest c = same_cell c cell.Rest
 fits (Hold p) c = same_cell c (cell.Hold p)
 fits (Start p) c = same_cell c (cell.Start p)
 
--- what may be given behind another cell of a bar: a tie goes on from a tie, a held pitch from the same pitch
+-- what may be given behind another cell of a bar: a tie goes on from a tie, a held pitch from the
+-- same pitch
 abbrev pub given_follows : Given → Given → Bool
 given_follows before Blank = true
 given_follows before Rest = true
@@ -37,6 +39,7 @@ abbrev pub FollowOn : Given → List Given → Type 0
 FollowOn before [] = ⊤
 FollowOn before (given ∷ later) = IsTrue (given_follows before given) × FollowOn given later
 
--- a bar that is given comes before another: it is of a lower voice, or of an earlier bar of the same voice
+-- a bar that is given comes before another: it is of a lower voice, or of an earlier bar of the
+-- same voice
 abbrev pub IsEarlier : GivenBar → GivenBar → Type 0
 IsEarlier line other = (line.voice < other.voice) ⊎ ((line.voice ≡ other.voice) × (line.bar < other.bar))

@@ -42,7 +42,8 @@ is_in_range ex v bar p = option_map_or (λ ends. is_between ends.0 ends.1 p) (ra
 abbrev pub is_in_pool : Exercise → ℕ → ℕ → Pitch → Bool
 is_in_pool ex v bar p = is_in_gamut ex.mode bar ex.bars p && is_in_range ex v bar p
 
--- the pool of a free voice in a bar: these pitches, by ascending key. A gamut spells no key otherwise than MIDI keys are spelled
+-- the pool of a free voice in a bar: these pitches, by ascending key. A gamut spells no key
+-- otherwise than MIDI keys are spelled
 unfoldable pub pool_of : Exercise → ℕ → ℕ → List Pitch
 pool_of ex v bar = filter (is_in_pool ex v bar) (filter_map spelled (range_with_len 24 73))
 
@@ -51,7 +52,8 @@ abbrev pub note_cell : Bool → Pitch → Cell
 note_cell true p = Start p
 note_cell false p = Hold p
 
--- what a free voice may do at a slot, in reading order: rest, hold or start a pitch of its pool, as its shapes have it
+-- what a free voice may do at a slot, in reading order: rest, hold or start a pitch of its pool, as
+-- its shapes have it
 abbrev pub free_cells : List (List ℕ) → ℕ → List Pitch → List Cell
 free_cells shapes slot pool =
     (if allows shapes slot 82 then Rest ∷ [] else [])
@@ -66,12 +68,14 @@ cantus_cells ex i = option_to_list (option_map (cantus_cell i) (slice_get ex.can
 abbrev pub open_cells : Exercise → ℕ → ℕ → List Cell
 open_cells ex i v = free_cells (shapes_in (species_in ex v) (bar_of i) ex.bars) (slot_of i) (pool_of ex v (bar_of i))
 
--- the cells that a voice may have at a column, in reading order: where a cell is given, only those that fit it
+-- the cells that a voice may have at a column, in reading order: where a cell is given, only those
+-- that fit it
 unfoldable pub cells_at : Exercise → ℕ → ℕ → List Cell
 cells_at ex i v =
     if v == ex.cantus_voice then cantus_cells ex i else filter (fits (given_at ex i v)) (open_cells ex i v)
 
--- every choice of one item from each list, those that differ first in an earlier list in the order of that list
+-- every choice of one item from each list, those that differ first in an earlier list in the order
+-- of that list
 abbrev pub combinations : List (List Cell) → List (List Cell)
 combinations [] = [] ∷ []
 combinations (cells ∷ others) = flat_map (λ cell. map (λ rest. cell ∷ rest) (combinations others)) cells

@@ -7,7 +7,8 @@ use Rattle.fux_grid.specs.declared.cell.Onset.{Onset}
 use Rattle.fux_grid.specs.Cells.{is_start, is_hold}
 use Rattle.fux_grid.specs.Columns.{cell_at}
 
--- a voice has this note: it starts with its pitch, is held at all its other columns, and isn't held at the column after them
+-- a voice has this note: it starts with its pitch, is held at all its other columns, and isn't held
+-- at the column after them
 pub record IsNote (s : List (List Cell)) (v : ℕ) (note : Note) : Type 0 where
   pub starts : cell_at s v note.start ≡ Start note.pitch
   pub long : 1 ≤ note.len
@@ -24,7 +25,8 @@ pub record IsNoteAt (s : List (List Cell)) (v i : ℕ) (note : Note) : Type 0 wh
   pub is_note : IsNote s v note
   pub covers : Covers note i
 
--- the latest note of a voice that is over at column i: it ends at or before the start of the note there
+-- the latest note of a voice that is over at column i: it ends at or before the start of the note
+-- there
 pub record IsPreviousNote (s : List (List Cell)) (v i : ℕ) (note : Note) : Type 0 where
   pub is_note : IsNote s v note
   pub over : note.start + note.len ≤ i

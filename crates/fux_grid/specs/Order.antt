@@ -29,7 +29,8 @@ cell_order (Start p) (Start q) = pitch_order p q
 abbrev pub column_order : List Cell → List Cell → Ordering
 column_order = slice_cmp cell_order
 
--- of two lists that differ at a column which both have, the one with the earlier column at the first such difference
+-- of two lists that differ at a column which both have, the one with the earlier column at the
+-- first such difference
 abbrev pub IsEarlier : List (List Cell) → List (List Cell) → Type 0
 IsEarlier s [] = ⊥
 IsEarlier [] (d ∷ t) = ⊥

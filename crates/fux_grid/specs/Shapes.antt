@@ -1,4 +1,5 @@
--- Bar shapes, by species. A shape has a letter for each slot: S where a note starts, H where it is held, R for a rest.
+-- Bar shapes, by species. A shape has a letter for each slot: S where a note starts, H where it is
+-- held, R for a rest.
 use Rattle.std.specs.Prelude.{ℕ, Bool, ◌==◌, ◌||◌, ◌++◌, List, [], ◌∷◌, if◌then◌else◌, codes, slice_index}
 use Rattle.std.specs.List.{list_any, starts_with}
 use Rattle.std.specs.Prelude.{nat_eq}
@@ -27,7 +28,8 @@ third_shapes bar = codes "SHSHSHSH" ∷ (if bar == 1 then codes "RRSHSHSH" ∷ [
 abbrev pub fourth_shapes : ℕ → List (List ℕ)
 fourth_shapes bar = if bar == 1 then codes "RRRRSHHH" ∷ [] else (codes "HHHHSHHH" ∷ codes "SHHHSHHH" ∷ [])
 
--- florid bars: those that start on the bar line, then those that begin with a rest or with a held note
+-- florid bars: those that start on the bar line, then those that begin with a rest or with a held
+-- note
 abbrev pub florid_starts : List (List ℕ)
 florid_starts =
     codes "SHHHSHHH" ∷ codes "SHHHSHSH" ∷ codes "SHHHHHSH" ∷ codes "SHSHSHHH" ∷ codes "SHSHSHSH" ∷ codes "SHSHSHSS"

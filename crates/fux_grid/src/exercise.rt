@@ -32,13 +32,15 @@ pub struct RangeLine {
     pub bars: Option<(u8, u8)>,
 }
 
-/// The rules of every exercise are numbered from 1 to this. Relax lines and the claims of certificates name no others.
+/// The rules of every exercise are numbered from 1 to this. Relax lines and the claims of
+/// certificates name no others.
 pub const GREATEST_RULE: u8 = 26;
 
 /// With the rules of mixed exercises, which are never relaxed, rules are numbered from 1 to this.
 pub const GREATEST_MIXED_RULE: u8 = 28;
 
-/// A rule that is relaxed from one bar to another at a price for each break: for one set of voices, or for all sets.
+/// A rule that is relaxed from one bar to another at a price for each break: for one set of voices,
+/// or for all sets.
 #[derive(Clone, Copy, Debug, PartialEq, Eq)]
 pub struct Relax {
     pub rule: u8,
@@ -48,7 +50,8 @@ pub struct Relax {
     pub price: u16,
 }
 
-/// An exercise: a cantus firmus, and what the other voices may do. Voices are numbered from 0 at the lowest.
+/// An exercise: a cantus firmus, and what the other voices may do. Voices are numbered from 0 at
+/// the lowest.
 #[derive(Drop)]
 pub struct Exercise<'a> {
     pub mode: Mode,
@@ -57,7 +60,8 @@ pub struct Exercise<'a> {
     /// The species of the species voice, from 1 to 5. All other voices have species 1.
     pub species: u8,
     pub species_voice: u8,
-    /// The species of each voice, where they are mixed: then `species` and `species_voice` say what the unnamed voices have.
+    /// The species of each voice, where they are mixed: then `species` and `species_voice` say what
+    /// the unnamed voices have.
     pub mixed: Option<[u8; 4]>,
     pub cantus_voice: u8,
     /// One pitch for each bar.
@@ -94,7 +98,8 @@ fn covers_bar(bars: Option<(u8, u8)>, bar: u8) -> bool
 
 /// The last range line of a voice that covers a bar.
 fn last_line(lines: &[RangeLine], v: u8, bar: u8) -> Option<RangeLine>
-    ensures { result ≡ last_or None (filter (λ line. (line.voice == v) && covers line.bars bar) lines.now) }
+    ensures { result ≡ last_or None (filter (λ line. (line.voice == v) && covers line.bars bar)
+        lines.now) }
 {
     let mut last = None;
     for line in lines {
@@ -130,7 +135,8 @@ fn species_at(species: &[u8; 4], v: u8) -> u8
     if v < 4 { species[v as usize] } else { 1 }
 }
 
-/// The species of a voice. A valid exercise has one of the five for each of its voices, and the first for the cantus.
+/// The species of a voice. A valid exercise has one of the five for each of its voices, and the
+/// first for the cantus.
 pub fn species_of(ex: &Exercise, v: u8) -> u8
     ensures value { result ≡ species_in ex.now v }
     ensures least { IsValid ex.now → v < ex.now.voices → 1 ≤ result }

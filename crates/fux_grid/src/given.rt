@@ -46,7 +46,8 @@ impl Given {
         }
     }
 
-    /// Whether this may be given behind `before`: a tie goes on from a tie, a pitch that goes on from the same pitch.
+    /// Whether this may be given behind `before`: a tie goes on from a tie, a pitch that goes on
+    /// from the same pitch.
     pub fn follows(self, before: Given) -> bool
         ensures { result ≡ given_follows before self }
     {
@@ -144,7 +145,8 @@ fn given_bars_fit(ex: &Exercise) -> bool
 
 /// Whether the bars that are given fit the exercise and ascend.
 pub(crate) fn are_given_bars(ex: &Exercise) -> bool
-    ensures { IsTrue result ↔ All (IsGivenBar ex.now) ex.now.given × AllPairs IsEarlier ex.now.given }
+    ensures { IsTrue result ↔ All (IsGivenBar ex.now) ex.now.given × AllPairs IsEarlier
+        ex.now.given }
 {
     given_bars_fit(ex) && given_ascend(ex.given.as_slice())
 }

@@ -6,11 +6,13 @@ ghost use Rattle.fux_grid.specs.Letters.{letters_of, bar_columns, bar_from};
 use crate::score::Score;
 use arrayvec::ArrayVec;
 
-/// The letters S, H and R of a voice in the bar that begins at column i, as many of them as the score has.
+/// The letters S, H and R of a voice in the bar that begins at column i, as many of them as the
+/// score has.
 pub fn letters_from(score: &Score, v: u8, i: usize) -> ArrayVec<u8, 8>
     requires { i ≤ length score.now.columns }
     ensures value { result.items ≡ letters_of v (take 8 (drop i score.now.columns)) }
-    ensures cut { i < length score.now.columns → result.items ≡ letters_of v (bar_from score.now.columns i) }
+    ensures cut { i < length score.now.columns → result.items
+        ≡ letters_of v (bar_from score.now.columns i) }
 {
     let count = (score.len() - i).min(8);
     let mut letters = ArrayVec::new();

@@ -22,7 +22,8 @@ use std::alloc::Global;
 /// The most columns that a menu may have.
 pub const WIDEST: u64 = 8192;
 
-/// The cells that a voice may have at a column: at most a rest, and a hold and a start of each of 73 pitches.
+/// The cells that a voice may have at a column: at most a rest, and a hold and a start of each of
+/// 73 pitches.
 pub type VoiceCells = ArrayVec<Cell, 147>;
 
 /// Why there is no menu.
@@ -38,8 +39,10 @@ pub enum MenuFault {
 fn gamut_pitch(ex: &Exercise, bar: u8, key: u8) -> Option<Pitch>
     requires first { 1 ≤ bar }
     requires last { bar ≤ ex.now.bars }
-    ensures some { IfSome result (λ p. (spelled key ≡ Some p) × (is_in_gamut ex.now.mode bar ex.now.bars p ≡ true)) }
-    ensures none { IfNone result ((p : APitch) → spelled key ≡ Some p → is_in_gamut ex.now.mode bar ex.now.bars p ≡ false) }
+    ensures some { IfSome result (λ p. (spelled key ≡ Some p)
+        × (is_in_gamut ex.now.mode bar ex.now.bars p ≡ true)) }
+    ensures none { IfNone result ((p : APitch) → spelled key ≡ Some p → is_in_gamut ex.now.mode bar
+        ex.now.bars p ≡ false) }
 {
     let pitch = spell(key)?;
     if in_gamut(ex.mode, bar, ex.bars, pitch) {
@@ -94,21 +97,24 @@ fn add_notes(cells: &mut VoiceCells, ex: &Exercise, v: u8, bar: u8, starts: bool
     requires first { 1 ≤ bar }
     requires last { bar ≤ ex.now.bars }
     requires room { length cells.old.items + 73 ≤ 147 }
-    ensures { cells.new.items ≡ cells.old.items ++ (if allowed then map (note_cell starts) (pool_of ex.now v bar) else []) }
+    ensures { cells.new.items ≡ cells.old.items
+        ++ (if allowed then map (note_cell starts) (pool_of ex.now v bar) else []) }
 {
     if allowed {
         add_pool(cells, ex, v, bar, starts);
     }
 }
 
-/// The cells that a free voice may have at a slot of a bar before anything is given, in reading order.
+/// The cells that a free voice may have at a slot of a bar before anything is given, in reading
+/// order.
 fn open_cells(ex: &Exercise, v: u8, bar: u8, slot: usize) -> VoiceCells
     requires valid { IsValid ex.now }
     requires free { IsFree ex.now v }
     requires first { 1 ≤ bar }
     requires last { bar ≤ ex.now.bars }
     requires slot { slot < 8 }
-    ensures { result.items ≡ free_cells (shapes_in (species_in ex.now v) bar ex.now.bars) slot (pool_of ex.now v bar) }
+    ensures { result.items ≡ free_cells (shapes_in (species_in ex.now v) bar ex.now.bars) slot
+        (pool_of ex.now v bar) }
 {
     let shapes = shapes_of(species_of(ex, v), bar, ex.bars);
     let mut cells = ArrayVec::new();
@@ -210,7 +216,8 @@ fn choices(ex: &Exercise, i: usize) -> ArrayVec<VoiceCells, 4>
     choices
 }
 
-/// The combination of one cell of each list that stands at a place in reading order, where there are so many.
+/// The combination of one cell of each list that stands at a place in reading order, where there
+/// are so many.
 fn combination(choices: &[VoiceCells], width: usize, k: usize) -> Column
     requires width { width ≡ length (combinations (items_of choices.now)) }
     requires place { k < width }
@@ -236,7 +243,8 @@ fn all_combinations(
 ) -> Result<Vec<Column>, Memory>
     requires width { width ≡ length (combinations (items_of choices.now)) }
     requires few { length choices.now ≤ 4 }
-    ensures { IfOk result (λ columns. items_of columns.items ≡ combinations (items_of choices.now)) }
+    ensures { IfOk result (λ columns. items_of columns.items
+        ≡ combinations (items_of choices.now)) }
 {
     let mut columns = Vec::with_capacity(alloc, width)?;
     for k in 0..width {
@@ -250,10 +258,12 @@ pub fn menu(alloc: Global, ex: &Exercise, i: usize) -> Result<Vec<Column>, MenuF
     requires valid { IsValid ex.now }
     requires place { i < 8 * ex.now.bars }
     ensures value { IfOk result (λ menu. items_of menu.items ≡ menu_of ex.now i) }
-    ensures columns { IfOk result (λ menu. (col : List ACell) → Contains (items_of menu.items) col ↔ IsInMenu ex.now i col) }
+    ensures columns { IfOk result (λ menu. (col : List ACell) → Contains (items_of menu.items) col
+        ↔ IsInMenu ex.now i col) }
     ensures order { IfOk result (λ menu. IsAscending (items_of menu.items)) }
     ensures most { IfOk result (λ menu. vec_len menu ≤ WIDEST) }
-    ensures wide { (count : ℕ) → (result ≡ Err (MenuFault.TooWide count)) ↔ ((count ≡ length (menu_of ex.now i)) × (WIDEST < count)) }
+    ensures wide { (count : ℕ) → (result ≡ Err (MenuFault.TooWide count))
+        ↔ ((count ≡ length (menu_of ex.now i)) × (WIDEST < count)) }
 {
     let count = width(ex, i);
     if count > WIDEST {

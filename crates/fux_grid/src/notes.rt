@@ -120,7 +120,8 @@ pub fn note_at(score: &Score, v: u8, i: usize) -> Option<Note>
     }
 }
 
-/// The latest note of a voice that is over at a column: the one before the note there, or before the column at a rest.
+/// The latest note of a voice that is over at a column: the one before the note there, or before
+/// the column at a rest.
 pub fn prev_note(score: &Score, v: u8, i: usize) -> Option<Note>
     requires { i < length score.now.columns }
     ensures value { result ≡ note_before score.now.columns v i }

@@ -46,7 +46,8 @@ impl Model for Score {
     ghost invariant = { λ s. IsScore s.voices s.columns };
 }
 
-/// Whether each cell of `next` may follow the one of its voice in `prev`; with no `prev`, whether `next` may come first.
+/// Whether each cell of `next` may follow the one of its voice in `prev`; with no `prev`, whether
+/// `next` may come first.
 pub fn follows(prev: Option<&Column>, next: &Column) -> bool
     ensures { IsTrue result ↔ ColumnFollows (cells_before prev.entry) next.now.items }
 {
@@ -122,7 +123,8 @@ impl Score {
         self.len() == 0
     }
 
-    /// What each score keeps. It does nothing; callers that prove something about a score learn this from it.
+    /// What each score keeps. It does nothing; callers that prove something about a score learn
+    /// this from it.
     pub fn kept(&self)
         ensures fewest { 2 ≤ self.now.voices }
         ensures most { self.now.voices ≤ 4 }
@@ -142,7 +144,8 @@ impl Score {
 
     /// The lowest voice whose cell may not come next.
     fn misfit(&self, col: &Column) -> Option<u8>
-        ensures value { result ≡ lowest_misfit (newest_column (reverse self.now.columns)) col.now.items }
+        ensures value { result ≡ lowest_misfit (newest_column (reverse self.now.columns))
+            col.now.items }
         ensures fits { length col.now.items ≤ 4 → result ≡ None →
             FollowsLast self.now.columns col.now.items }
     {
@@ -170,7 +173,10 @@ impl Score {
 
     /// Appends a column. It takes no memory.
     pub fn push(&mut self, col: Column) -> Result<(), GridFault>
-        ensures ok { OnOk result (self.new ≡ record self.old { columns = self.old.columns ++ col.items ∷ [] }) }
+        ensures ok { OnOk result (self.new ≡ record self.old {
+          columns = self.old.columns ++ col.items
+              ∷ [];
+        }) }
         ensures err { OnErr result (self.new ≡ self.old) }
         ensures fault { result_err result ≡ push_fault self.old col.items }
 
@@ -204,7 +210,8 @@ impl Score {
         self.column(i - 1).as_slice()
     }
 
-    /// The cells of the column that stands k columns after the next one; none where there is no such column.
+    /// The cells of the column that stands k columns after the next one; none where there is no
+    /// such column.
     pub fn later(&self, i: usize, k: usize) -> &[Cell]
         requires { i < length self.now.columns }
         ensures { result.now ≡ slice_index_or (drop (i + 1) self.now.columns) k [] }
@@ -216,7 +223,8 @@ impl Score {
         self.column(i + 1 + k).as_slice()
     }
 
-    /// The cells of the column that stands k columns before the one before a place; none where there is no such column.
+    /// The cells of the column that stands k columns before the one before a place; none where
+    /// there is no such column.
     pub fn behind(&self, i: usize, k: usize) -> &[Cell]
         requires { i ≤ length self.now.columns }
         ensures { result.now ≡ slice_index_or (earlier self.now.columns i) k [] }

@@ -1,4 +1,5 @@
--- What lies ahead of a line: where no start is, each key is the last climax, and one that a later bar reaches above is not.
+-- What lies ahead of a line: where no start is, each key is the last climax, and one that a later
+-- bar reaches above is not.
 use Rattle.std.proofs.Common.{◌≡◌, ℕ, zero, suc, ◌+◌, ◌<◌, ◌≤◌, Bool, true, false, ◌&&◌, ◌||◌, cond, List, [], ◌∷◌, ◌++◌, length, refl, ap, sym, subst, ◌∙◌, arith, inl, inr}
 use Rattle.std.specs.Prelude.{pos, int_le, not, count_by, Contains, filter, map, if◌then◌else◌}
 use Rattle.std.specs.List.{list_all, range_with_len}

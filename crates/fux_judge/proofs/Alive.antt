@@ -1,6 +1,7 @@
--- A prefix in which no strict break is settled is orderly (`alive_orderly`), so what is settled in it is what is settled in the list
--- itself (`agree`). Of a setting no strict break is settled where none is broken (`alive_if_unbroken`, `unbroken_if_alive`), and
--- what is paid of it is its penalty (`paid_at_end`).
+-- A prefix in which no strict break is settled is orderly (`alive_orderly`), so what is settled in
+-- it is what is settled in the list itself (`agree`). Of a setting no strict break is settled where
+-- none is broken (`alive_if_unbroken`, `unbroken_if_alive`), and what is paid of it is its penalty
+-- (`paid_at_end`).
 use Rattle.std.specs.Prelude.{◌≡◌, ℕ, zero, suc, ◌+◌, ◌-◌, ◌*◌, ◌/◌, ◌^◌, ◌<◌, ◌≤◌, ◌==◌, Bool, true, false, ◌&&◌, ◌||◌, List, [], ◌∷◌, ◌++◌, length, reverse, slice_index_or, refl}
 use Rattle.std.specs.List.{list_any}
 use Rattle.std.proofs.Common.{ap, sym, ◌∙◌, subst, arith}

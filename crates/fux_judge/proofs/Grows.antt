@@ -1,6 +1,7 @@
--- A strict break is settled in a longer prefix where one was before or its last column settles one (`strict_break_grows`), and
--- what is paid of it is what was before and what that column settles (`paid_grows`). After an orderly prefix the same holds of what
--- is settled in the list itself, so in prefixes that were orderly before their last column both are one.
+-- A strict break is settled in a longer prefix where one was before or its last column settles one
+-- (`strict_break_grows`), and what is paid of it is what was before and what that column settles
+-- (`paid_grows`). After an orderly prefix the same holds of what is settled in the list itself, so
+-- in prefixes that were orderly before their last column both are one.
 use Rattle.std.specs.Prelude.{◌≡◌, ℕ, suc, ◌+◌, ◌*◌, ◌<◌, ◌≤◌, Bool, true, false, ◌&&◌, ◌||◌, List, [], ◌∷◌, ◌++◌, length, take, slice_index_or, if◌then◌else◌, refl}
 use Rattle.std.specs.List.{list_any, sum_by}
 use Rattle.std.proofs.Common.{ap, ◌∙◌, arith, add-one}
@@ -36,7 +37,8 @@ module _ (ex : Exercise) (p : List (List Cell)) (col : List Cell) where
   pub column_at_end : slice_index_or (p ++ col ∷ []) (length p) [] ≡ col
   column_at_end = get_or-append_seam p col [] []
 
-  -- a strict break is settled in the longer prefix where one was before, or where the column settles one
+  -- a strict break is settled in the longer prefix where one was before, or where the column
+  -- settles one
   pub strict_break_grows : has_strict_break ex (p ++ col ∷ [])
       ≡ (has_strict_break ex p || list_any (newly_broken ex p col) rules_read)
   strict_break_grows =

@@ -1,5 +1,5 @@
 -- What is read at the places of a late rule.
-use Rattle.std.proofs.Common.{◌≡◌, ℕ, ◌+◌, ◌-◌, ◌<◌, ◌≤◌, ◌==◌, ◌||◌, zero, suc, Bool, true, false, not, List, [], ◌∷◌, ◌++◌, length, refl, ap, sym, ◌∙◌, arith}
+use Rattle.std.proofs.Common.{◌≡◌, ℕ, ◌+◌, ◌-◌, ◌<◌, ◌≤◌, ◌==◌, ◌||◌, zero, suc, Bool, true, false, List, [], ◌∷◌, length, refl, ap, sym, ◌∙◌, arith}
 use Rattle.std.specs.Prelude.{if◌then◌else◌}
 use Rattle.std.specs.List.{list_all, list_any, sum_by}
 use Rattle.std.proofs.lemmas.List.{length-append}
@@ -38,7 +38,8 @@ module _ (first_of count_of : Exercise → ℕ → ℕ) (ex : Exercise) (next : 
   pub is_among : (k : ℕ) → k < count → IsAmong (first_of ex (length p)) (count_of ex (length p)) (first + k)
   is_among k h = record { from = omega (arith, first_is); to = omega (arith, first_is, count_is) }
 
--- a late rule's places, or those of them among which all is that it newly breaks, tell the same of a break
+-- a late rule's places, or those of them among which all is that it newly breaks, tell the same of
+-- a break
 module _ (rule : ℕ) (ex : Exercise) (p : List (List Cell)) (col : List Cell) where
   abbrev Newly : ℕ → ℕ → Type 0
   Newly voices i = newly_breaks (rule_at rule) ex voices p col i ≡ true
@@ -109,7 +110,8 @@ no_late_prices ex p col e =
     free true false h = refl
     free false b h = refl
 
--- where an item of one list passes a test, and each item of it is in another list, one of that list passes
+-- where an item of one list passes a test, and each item of it is in another list, one of that list
+-- passes
 any_within : (test : ℕ → Bool) (xs ys : List ℕ) → list_all (λ x. list_any (λ y. y == x) ys) xs ≡ true
     → list_any test xs ≡ true → list_any test ys ≡ true
 any_within test [] ys within h = cc
@@ -145,7 +147,8 @@ late_are_asked : list_all (λ x. list_any (λ y. y == x) all_rules.late_rules) l
 unfolding late_rules rules_read rule_at
 late_are_asked = refl
 
--- and of each of them: some late rule passes a test where one does in the order in which they are asked
+-- and of each of them: some late rule passes a test where one does in the order in which they are
+-- asked
 pub any_asked : (test : ℕ → Bool) → list_any test all_rules.late_rules ≡ list_any test late_rules
 any_asked test = alike (list_any test all_rules.late_rules) (list_any test late_rules)
     (any_within test all_rules.late_rules late_rules asked_are_late)

@@ -1,6 +1,6 @@
--- What the gauges cost at least never falls from a prefix to a longer one (`least_grows`), and of a setting it is what they cost
--- (`least_at_end`). So of a setting without a strict break, what is paid and what the gauges cost at least are its penalty
--- (`paid_and_least_at_end`).
+-- What the gauges cost at least never falls from a prefix to a longer one (`least_grows`), and of a
+-- setting it is what they cost (`least_at_end`). So of a setting without a strict break, what is
+-- paid and what the gauges cost at least are its penalty (`paid_and_least_at_end`).
 use Rattle.std.specs.Prelude.{◌≡◌, ℕ, zero, suc, ◌+◌, ◌*◌, ◌<◌, ◌≤◌, ◌==◌, Bool, true, false, not, List, [], ◌∷◌, ◌++◌, Contains, length, reverse, if◌then◌else◌, refl}
 use Rattle.std.specs.List.{AllByRecursion, filter, range_with_len, sum_by}
 use Rattle.std.proofs.Common.{ap, ap₂, sym, ◌∙◌, subst, arith}

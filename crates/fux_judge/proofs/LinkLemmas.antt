@@ -1,4 +1,6 @@
--- What a link reads of a rule of neighbors, and of a toll, is what the table says of it (`broken_at`, `cost_at`); and what a link costs is what its column costs by itself and what the two cost together (`link_parts`).
+-- What a link reads of a rule of neighbors, and of a toll, is what the table says of it
+-- (`broken_at`, `cost_at`); and what a link costs is what its column costs by itself and what the
+-- two cost together (`link_parts`).
 use Rattle.std.proofs.Common.{◌≡◌, ℕ, ◌+◌, ◌*◌, ◌==◌, ◌≤◌, ◌&&◌, ◌||◌, Bool, true, false, if◌then◌else◌, List, [], ◌∷◌, map, Option, Some, None, zero, suc, refl, ap, sym, ◌∙◌, subst, arith}
 use Rattle.std.specs.Prelude.{IsSomeAnd}
 use Rattle.std.specs.Borrow.{Bor}
@@ -63,7 +65,8 @@ sounds col v = ap (λ d. previous_pitch (cell_in col v ∷ d ∷ [])) (begun_in 
 pub all_sound : (col : List Cell) → previous_pitches (behind_of (Some col)) ≡ sounding_pitches col
 all_sound col = rw (sounds col 0, sounds col 1, sounds col 2, sounds col 3) refl
 
--- of a link: the column before its own is the newest behind it, and each voice's previous note is the one that it sounds there
+-- of a link: the column before its own is the newest behind it, and each voice's previous note is
+-- the one that it sounds there
 pub newest_behind : (l : Link) → IsLink l → l.before.now ≡ newest_column (behind_of (given l.prev))
 newest_behind l link = link.before ∙ at l.prev
   where

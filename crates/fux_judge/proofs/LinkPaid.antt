@@ -1,5 +1,5 @@
--- After an orderly prefix a column that settles no strict break makes a link with the one before it, which costs at most what the
--- column settles (`link_is_paid`).
+-- After an orderly prefix a column that settles no strict break makes a link with the one before
+-- it, which costs at most what the column settles (`link_is_paid`).
 use Rattle.std.proofs.Common.{◌≡◌, ◌<◌, ℕ, ◌+◌, ◌*◌, ◌≤◌, ◌&&◌, ◌||◌, Bool, true, false, if◌then◌else◌, List, [], ◌∷◌, ◌++◌, length, reverse, Some, None, refl, ap, sym, ◌∙◌, add-one, subst, arith}
 use Rattle.std.specs.Prelude.{IsSomeAnd}
 use Rattle.std.specs.List.{list_any, sum_by}

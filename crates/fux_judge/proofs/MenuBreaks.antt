@@ -1,5 +1,5 @@
--- A cell of a menu keeps within its voice's range and the bar's gamut (`within_range`, `within_gamut`), so a column of one breaks neither S1
--- nor S2 (`keeps_ranges`, `keeps_gamut`).
+-- A cell of a menu keeps within its voice's range and the bar's gamut (`within_range`,
+-- `within_gamut`), so a column of one breaks neither S1 nor S2 (`keeps_ranges`, `keeps_gamut`).
 use Rattle.std.specs.Prelude.{◌≡◌, ◌≢◌, ℕ, zero, suc, ◌<◌, ◌==◌, Bool, true, false, not, ◌&&◌, nat_lt, List, [], ◌∷◌, ◌++◌, map, Contains, Option, Some, None, ⊤, if◌then◌else◌, refl}
 use Rattle.std.proofs.Common.{ap, sym, ◌∙◌, subst, arith, inl, inr}
 use Rattle.std.specs.Option.{option_map_or}

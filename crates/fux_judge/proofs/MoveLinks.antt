@@ -1,5 +1,5 @@
--- What two columns cost is what the moves of the voices cost by themselves, and what several voices cost together
--- (`pair_parts`); so it is no less than what the moves cost (`moves_are_least`).
+-- What two columns cost is what the moves of the voices cost by themselves, and what several voices
+-- cost together (`pair_parts`); so it is no less than what the moves cost (`moves_are_least`).
 use Rattle.std.proofs.Common.{◌≡◌, ℕ, ◌+◌, ◌*◌, ◌≤◌, ◌&&◌, ◌||◌, Bool, true, false, if◌then◌else◌, List, [], ◌∷◌, Option, Some, None, refl, ap, sym, ◌∙◌, arith}
 use Rattle.std.specs.Prelude.{IsSomeAnd, not, nat_lt, ◌^◌}
 use Rattle.std.specs.List.{filter, list_any, sum_by}

@@ -4,7 +4,8 @@ use Rattle.std.specs.List.{filter, list_all, list_any, sum_by}
 use Rattle.std.proofs.Common.{ap, sym, ◌∙◌, arith}
 use Rattle.std.proofs.lemmas.List.Sums.{sum_by-cons}
 
--- a test passes for some of a list where it does for some of those that are kept, or for some of the others
+-- a test passes for some of a list where it does for some of those that are kept, or for some of
+-- the others
 pub list_any-parted : (test keep : ℕ → Bool) (xs : List ℕ) → list_any test xs
     ≡ (list_any test (filter (λ x. not (keep x)) xs) || list_any test (filter keep xs))
 list_any-parted test keep [] = refl

@@ -58,7 +58,8 @@ some_of test x (y ∷ ys) k t = at (x == y) refl k (λ m. some_of test x ys m t)
     at true e m later = ap (λ b. b || list_any test ys) (ap test (sym (eqb-true x y e)) ∙ t)
     at false e m later = ap (λ b. test y || b) (later m) ∙ or_true (test y)
 
--- the rules that read below are read, S3 isn't one of them, and of those of rhythm and cadence they are the ones of endings
+-- the rules that read below are read, S3 isn't one of them, and of those of rhythm and cadence they
+-- are the ones of endings
 reads_some : (rule : ℕ) → reads_below rule ≡ true → is_read rule ≡ true
 unfolding rules_read
 reads_some rule h = one_of is_read rule rules_below refl h

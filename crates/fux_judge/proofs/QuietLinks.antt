@@ -1,5 +1,6 @@
--- Where neither a bar nor a note begins, no rule of neighbors is broken and no toll of neighbors costs anything: a column
--- costs nothing by itself (`column_quiet`), nor with the one before it (`pair_quiet`).
+-- Where neither a bar nor a note begins, no rule of neighbors is broken and no toll of neighbors
+-- costs anything: a column costs nothing by itself (`column_quiet`), nor with the one before it
+-- (`pair_quiet`).
 use Rattle.std.proofs.Common.{◌≡◌, ℕ, ◌+◌, ◌*◌, ◌==◌, ◌&&◌, Bool, true, false, if◌then◌else◌}
 use Rattle.std.proofs.Common.{List, [], Option, Some, None, refl, ap, sym, ◌∙◌, arith}
 use Rattle.std.specs.Prelude.{not, nat_le, nat_lt}

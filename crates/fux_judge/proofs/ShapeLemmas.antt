@@ -1,4 +1,5 @@
--- A voice that leaves its last shape settles a strict break in each column with its cell (`leaves_in_all`).
+-- A voice that leaves its last shape settles a strict break in each column with its cell
+-- (`leaves_in_all`).
 use Rattle.std.proofs.Common.{◌≡◌, ℕ, ◌+◌, ◌^◌, ◌<◌, ◌==◌, true, List, [], ◌∷◌, ◌++◌, length, refl, ap, ◌∙◌, arith}
 use Rattle.std.specs.List.{list_any}
 use Rattle.std.proofs.lemmas.Bool.{and_from}

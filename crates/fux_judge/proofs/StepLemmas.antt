@@ -1,4 +1,5 @@
--- A step tells which rules the column breaks (`step_breaks`, `breaks_by_parts`), and what it costs (`step_pays`).
+-- A step tells which rules the column breaks (`step_breaks`, `breaks_by_parts`), and what it costs
+-- (`step_pays`).
 use Rattle.std.proofs.Common.{◌≡◌, ℕ, ◌+◌, ◌==◌, ◌&&◌, ◌||◌, Bool, true, false, List, [], ◌∷◌, ◌++◌, length, refl, ap, sym, ◌∙◌, arith}
 use Rattle.std.specs.Prelude.{if◌then◌else◌, not}
 use Rattle.std.specs.List.{list_all, list_any, sum_by}
@@ -146,7 +147,8 @@ module _ (ex : Exercise) (p : List (List Cell)) (col : List Cell) where
         (λ e. sym (newly_broken-late ex p col r (one_of is_late r late_rules (all_late ex p col) e) on))
         ∙ ap (λ b. b && newly_broken ex p col r) (sym (read_by_parts r))
 
-    -- a column that breaks no late rule strictly breaks some rule where it breaks one that is settled at once
+    -- a column that breaks no late rule strictly breaks some rule where it breaks one that is
+    -- settled at once
     pub broken_at_once : GoesOn ex p (col ∷ []) → list_any (breaks_late ex p col) late_rules ≡ false
         → list_any (newly_broken ex p col) rules_read
         ≡ list_any (λ rule. is_strictly_broken_then all_sets rule p m) rules_at_once

@@ -1,5 +1,6 @@
--- What a column newly settles stands at its own place, or at the places of late rules: strict breaks (`newly_broken-at_once`,
--- `newly_broken-late`), and what is paid (`newly_paid-parts`, `tolls_within`).
+-- What a column newly settles stands at its own place, or at the places of late rules: strict
+-- breaks (`newly_broken-at_once`, `newly_broken-late`), and what is paid (`newly_paid-parts`,
+-- `tolls_within`).
 use Rattle.std.specs.Prelude.{◌≡◌, ℕ, zero, suc, ◌+◌, ◌-◌, ◌*◌, ◌<◌, ◌≤◌, Bool, true, false, not, ◌&&◌, ◌||◌, nat_lt, List, [], ◌∷◌, ◌++◌, length, if◌then◌else◌, refl}
 use Rattle.std.specs.List.{list_all, list_any, sum_by}
 use Rattle.std.proofs.Common.{ap, sym, ◌∙◌, arith, add-one}
@@ -396,8 +397,8 @@ module _ (ex : Exercise) (p : List (List Cell)) (col : List Cell) where
         no_less : (a b c d : ℕ) → d ≡ a + b + c → a ≤ d
         no_less a b c d e = omega arith
 
-    -- what it settles is what the tolls cost at its own place and late ones at theirs, and what relaxed breaks cost there and at the
-    -- places of late rules
+    -- what it settles is what the tolls cost at its own place and late ones at theirs, and what
+    -- relaxed breaks cost there and at the places of late rules
     pub newly_paid-parts : GoesOn ex p (col ∷ []) → newly_paid ex sheet p col
         ≡ tolls_at_end ex sheet p col + sum_by (toll_late ex sheet p col) late_tolls +
         (sum_by (prices_at_end ex p col) rules_at_once + sum_by (prices_late ex p col) late_rules)

@@ -1,4 +1,5 @@
--- The first rule that is broken of those that are told is the least of all where S3 isn't broken (`told_is_least`).
+-- The first rule that is broken of those that are told is the least of all where S3 isn't broken
+-- (`told_is_least`).
 use Rattle.std.proofs.Common.{◌≡◌, ℕ, ◌+◌, ◌*◌, ◌/◌, ◌<◌, ◌≤◌, ◌==◌, ◌&&◌, ◌||◌, Bool, true, false, List, [], ◌∷◌, ◌++◌, drop, get_or, length, reverse, slice_index_or, subst, refl, ap, sym, ◌∙◌, arith}
 use Rattle.std.specs.Prelude.{Some, None, cond, not}
 use Rattle.std.specs.List.{filter, find, list_all, list_any}

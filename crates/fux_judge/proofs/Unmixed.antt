@@ -1,4 +1,5 @@
--- S27 and S28 are of mixed exercises: a column settles no break of them in another one (`unmixed_unbroken`).
+-- S27 and S28 are of mixed exercises: a column settles no break of them in another one
+-- (`unmixed_unbroken`).
 use Rattle.std.proofs.Common.{◌≡◌, ℕ, ◌+◌, ◌==◌, ◌&&◌, ◌||◌, Bool, true, false, List, [], ◌∷◌, ◌++◌, None, length, refl, ap, ◌∙◌}
 use Rattle.std.specs.Prelude.{is_some}
 use Rattle.std.proofs.lemmas.Bool.{eqb-true}

@@ -27,7 +27,8 @@ stands toll cells now =
     if toll == 13 then leaves_leap_open (before_last (pitches cells)) (last_of (pitches cells)) now
     else holds_of (charges_move toll) (move_from (previous_pitch cells) now)
 
--- what it costs a voice in the column that comes after a prefix: the toll's weight where it stands for a free voice
+-- what it costs a voice in the column that comes after a prefix: the toll's weight where it stands
+-- for a free voice
 abbrev pub voice_toll : Exercise → Sheet → List (List Cell) → List Cell → ℕ → ℕ → ℕ
 voice_toll ex sheet p col v toll =
     if is_free ex v && stands toll (line v (reverse p)) (cell_in col v) then weight_of sheet toll else 0

@@ -26,13 +26,15 @@ abbrev pub AreGaugesOf : List (List Cell) → List LineGauges → Type 0
 AreGaugesOf behind voices =
     (v : ℕ) (kept : LineGauges) → slice_get voices v ≡ Some kept → IsGaugesOf (line v behind) kept
 
--- from column i on: the starts ahead of the voice, the last bar's place for a note above a lower key, and a key above which no column has one
+-- from column i on: the starts ahead of the voice, the last bar's place for a note above a lower
+-- key, and a key above which no column has one
 pub record IsAheadOf (ex : Exercise) (v i : ℕ) (ahead : LineAhead) : Type 0 where
   pub starts : ahead.starts ≡ starts_ahead ex v i
   pub last_high : (key : ℕ) → key < ahead.last_high → is_topped ex v (pos key) (columns_in ex - 8) ≡ false
   pub highest : (key : ℕ) → ahead.highest ≤ key → (j : ℕ) → j < columns_in ex → is_topped ex v (pos key) j ≡ true
 
--- with the voice's cell from a column of the menu of column i, what lies ahead from there on becomes what lies ahead from the next column on
+-- with the voice's cell from a column of the menu of column i, what lies ahead from there on
+-- becomes what lies ahead from the next column on
 abbrev pub StepsAhead : Exercise → ℕ → ℕ → Cell → LineAhead → LineAhead → Type 0
 StepsAhead ex v i cell ahead after =
     (col : List Cell) → IsInMenu ex i col → cell_in col v ≡ cell → IsFree ex v

@@ -1,5 +1,6 @@
--- What the lines of the free voices cost by the gauges Q17 to Q20, and what they cost at least while they go on.
-use Rattle.std.specs.Prelude.{ℕ, ◌+◌, ◌*◌, ◌==◌, Bool, List, [], ◌∷◌, reverse, if◌then◌else◌}
+-- What the lines of the free voices cost by the gauges Q17 to Q20, and what they cost at least
+-- while they go on.
+use Rattle.std.specs.Prelude.{ℕ, ◌+◌, ◌*◌, Bool, List, reverse, if◌then◌else◌}
 use Rattle.std.specs.Int.{from_bool}
 use Rattle.std.specs.List.{filter, range_with_len, sum_by}
 use Rattle.fux_grid.specs.declared.cell.Cell.{Cell}
@@ -26,11 +27,13 @@ cost_of_line sheet cells = sum_by (λ gauge. gauge.value cells * weight_of sheet
 abbrev pub least_of_line : Exercise → Sheet → ℕ → List Cell → ℕ
 least_of_line ex sheet v cells = sum_by (λ gauge. gauge.least ex v cells * weight_of sheet gauge.number) gauges
 
--- what the line of a voice costs at least in each setting that a prefix begins, nothing where the voice isn't free
+-- what the line of a voice costs at least in each setting that a prefix begins, nothing where the
+-- voice isn't free
 abbrev pub least_of_voice : Exercise → Sheet → ℕ → List (List Cell) → ℕ
 least_of_voice ex sheet v p = if is_free ex v then least_of_line ex sheet v (cells_of_voice p v) else 0
 
--- what the four values of a line cost together, each by its weight: that of the climax, whether it's narrow, that of its leaps and of its strikes
+-- what the four values of a line cost together, each by its weight: that of the climax, whether
+-- it's narrow, that of its leaps and of its strikes
 abbrev pub cost_of_values : Sheet → ℕ → Bool → ℕ → ℕ → ℕ
 cost_of_values sheet climax narrow leaps strikes =
     0 + climax * weight_of sheet 17 + from_bool narrow * weight_of sheet 18 + leaps * weight_of sheet 19 + strikes *

@@ -3,7 +3,8 @@ use Rattle.std.specs.Prelude.{ℕ, ◌==◌, ◌||◌, not, Bool, List}
 use Rattle.std.specs.List.{filter}
 use Rattle.fux_judge.specs.Rules.{is_of_melody, rules_at_once}
 
--- the rules of motion that one test tells of, those of dissonance, and those of one free voice that aren't of melody
+-- the rules of motion that one test tells of, those of dissonance, and those of one free voice that
+-- aren't of melody
 abbrev pub is_moving : ℕ → Bool
 is_moving rule = ((rule == 10) || (rule == 16)) || (rule == 17)
 
@@ -17,13 +18,15 @@ is_of_place rule = ((rule == 1) || (rule == 2)) || (rule == 12)
 abbrev pub is_of_ending : ℕ → Bool
 is_of_ending rule = (rule == 13) || (rule == 24)
 
--- of the rules that are settled at once, those that are left in a column that is smooth, clear and in place
+-- of the rules that are settled at once, those that are left in a column that is smooth, clear and
+-- in place
 unfoldable pub rules_at_the_end : List ℕ
 rules_at_the_end =
     filter (λ rule. not (is_of_place rule))
     (filter (λ rule. not (is_moving rule)) (filter (λ rule. not (is_of_melody rule)) rules_at_once))
 
--- those of them that are left before the last bar, and where no two voices come close or no bar begins
+-- those of them that are left before the last bar, and where no two voices come close or no bar
+-- begins
 unfoldable pub rules_at_a_bar : List ℕ
 rules_at_a_bar = filter (λ rule. not (is_of_ending rule)) rules_at_the_end
 

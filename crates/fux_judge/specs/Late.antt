@@ -1,4 +1,5 @@
--- What is told of a column that has come behind an orderly prefix, known by the state of the two alone.
+-- What is told of a column that has come behind an orderly prefix, known by the state of the two
+-- alone.
 use Rattle.std.specs.Prelude.{◌≡◌, ℕ, ◌+◌, ◌<◌, ◌≤◌, ◌||◌, Bool, true, List, length}
 use Rattle.fux_grid.specs.declared.cell.Cell.{Cell}
 use Rattle.fux_grid.specs.declared.exercise.Exercise.{Exercise}

@@ -20,7 +20,8 @@ pub record IsLawful (ex : Exercise) (s : List (List Cell)) : Type 0 where
   pub setting : IsSetting ex s
   pub unbroken : (i : ℕ) → i < length s → breaks_strictly ex s i ≡ false
 
--- the best setting: it is lawful, no lawful setting has a lesser penalty, and it comes before every other one of equal penalty in reading order
+-- the best setting: it is lawful, no lawful setting has a lesser penalty, and it comes before every
+-- other one of equal penalty in reading order
 pub record IsBest (ex : Exercise) (sheet : Sheet) (s : List (List Cell)) : Type 0 where
   pub lawful : IsLawful ex s
   pub least : (t : List (List Cell)) → IsLawful ex t → penalty_of ex sheet s ≤ penalty_of ex sheet t

@@ -64,8 +64,9 @@ begun Rest = Rest
 begun (Hold p) = Start p
 begun (Start p) = Start p
 
--- the column before, as all that is known of what lies behind: the previous note of a voice is the one that it sounds there,
--- and a voice that rests there has none; nothing lies behind the first column
+-- the column before, as all that is known of what lies behind: the previous note of a voice is the
+-- one that it sounds there, and a voice that rests there has none; nothing lies behind the first
+-- column
 abbrev pub behind_of : Option (List Cell) → List (List Cell)
 behind_of None = []
 behind_of (Some before) = before ∷ map begun before ∷ []
@@ -97,7 +98,8 @@ column_of ex sheet i next =
     if list_any (breaks_strictly ex i None next) column_rules then None
     else Some (sum_by (λ toll. cost_between ex i None next toll * weight_of sheet toll) column_tolls)
 
--- whatever column stands before it, what the two cost, if they do, is no less than what is told; and then something is told
+-- whatever column stands before it, what the two cost, if they do, is no less than what is told;
+-- and then something is told
 abbrev pub IsLeastOfLinks : Exercise → Sheet → ℕ → List Cell → Option ℕ → Type 0
 IsLeastOfLinks ex sheet i next told =
     (before : Option (List Cell)) (x : ℕ) → link_of ex sheet i before next ≡ Some x → IsSomeAnd told (λ y. y ≤ x)

@@ -27,7 +27,8 @@ move_tolls = filter is_toll_of_melody pair_tolls
 unfoldable pub joint_tolls : List ℕ
 joint_tolls = filter (λ toll. not (is_toll_of_melody toll)) pair_tolls
 
--- a voice of the exercise that is free strictly breaks a rule at a place, by its move from a cell to the next
+-- a voice of the exercise that is free strictly breaks a rule at a place, by its move from a cell
+-- to the next
 abbrev pub breaks_by_move : Exercise → ℕ → ℕ → Cell → Cell → ℕ → Bool
 breaks_by_move ex i v before next rule =
     (nat_lt v ex.voices && (is_free ex v && voice_rule rule (species_in ex v) (pitch_of before) next))

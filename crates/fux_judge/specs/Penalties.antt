@@ -20,7 +20,8 @@ is_strict_at rule ex voices i = is_strict (price_in ex rule voices (bar_of i))
 abbrev pub price_at_place : ℕ → Exercise → ℕ → ℕ → ℕ
 price_at_place rule ex voices i = amount_of (price_in ex rule voices (bar_of i))
 
--- what a rule costs for a set of voices at a place: the price of a relaxed break, where it is broken
+-- what a rule costs for a set of voices at a place: the price of a relaxed break, where it is
+-- broken
 abbrev pub price_read : ℕ → Exercise → ℕ → Reading ℕ
 price_read rule ex voices s i = if is_broken rule ex voices s i then price_at_place rule ex voices i else 0
 
@@ -64,7 +65,8 @@ new_prices ex p col i = sum_by (λ rule. sum_by (new_price ex p col i rule) all_
 abbrev pub newly_paid : Exercise → Sheet → List (List Cell) → List Cell → ℕ
 newly_paid ex sheet p col = sum_below (λ i. new_tolls ex sheet p col i + new_prices ex p col i) (length p + 1)
 
--- a strict break is settled in a prefix: one of its columns settles it, read in the prefix that ends there
+-- a strict break is settled in a prefix: one of its columns settles it, read in the prefix that
+-- ends there
 abbrev pub breaks_by_column : Exercise → List (List Cell) → ℕ → Bool
 breaks_by_column ex p k = settles_break ex (take k p) (slice_index_or p k [])
 
@@ -94,7 +96,8 @@ charges_of ex sheet s = sum_below (λ i. tolls_at ex sheet s i + prices_at ex s 
 abbrev pub penalty_of : Exercise → Sheet → List (List Cell) → ℕ
 penalty_of ex sheet s = charges_of ex sheet s + gauges_of ex sheet s
 
--- the same readings in the list itself: of an orderly prefix, and of a setting that begins with none but orderly ones, they are those above
+-- the same readings in the list itself: of an orderly prefix, and of a setting that begins with
+-- none but orderly ones, they are those above
 abbrev pub has_break_settled_in : Exercise → List (List Cell) → Bool
 has_break_settled_in ex p =
     any_below (λ i. list_any (λ rule. list_any (λ voices. is_strictly_broken rule ex voices p i) all_sets) rules_read)

@@ -12,7 +12,8 @@ use Rattle.fux_judge.specs.Penalties.{newly_paid, settles_break}
 use Rattle.fux_judge.specs.Moments.{IsAfter}
 use Rattle.fux_judge.specs.States.{IsStateOf}
 
--- the rules that read the cells of their own voices, and whether a lower one sounds: all but S1 to S3, and S12, which reads the cantus
+-- the rules that read the cells of their own voices, and whether a lower one sounds: all but S1 to
+-- S3, and S12, which reads the cantus
 abbrev pub rules_below : List ℕ
 rules_below = 4 ∷ 5 ∷ 6 ∷ 7 ∷ 8 ∷ 9 ∷ 10 ∷ 11 ∷ 13 ∷ 14 ∷ 16 ∷ 17 ∷ 24 ∷ 26 ∷ []
 
@@ -39,12 +40,14 @@ IsDeadWithin n m = (p : List (List Cell)) → IsAfter p m → AllBreak n m.exerc
 abbrev pub IsDeadBy : ℕ → Moment → Type 0
 IsDeadBy voices m = (n : ℕ) → IsTrue (is_set_below n voices) → IsDeadWithin n m
 
--- after the prefix the column settles a strict break, or costs no less than a limit, where there is one
+-- after the prefix the column settles a strict break, or costs no less than a limit, where there is
+-- one
 abbrev pub IsPruned : Exercise → Sheet → List (List Cell) → Option ℕ → List Cell → Type 0
 IsPruned ex sheet p limit col =
     (settles_break ex p col ≡ true) ⊎ IsSomeAnd limit (λ cost. cost ≤ newly_paid ex sheet p col)
 
--- after whatever prefix the state is of, each full column with the same cells in the first voices does so or costs so much
+-- after whatever prefix the state is of, each full column with the same cells in the first voices
+-- does so or costs so much
 abbrev pub PrunesWithin : ℕ → Exercise → Sheet → State → Option ℕ → List Cell → Type 0
 PrunesWithin n ex sheet state limit col =
     (p : Columns) → IsStateOf ex p state → (other : List Cell) → length other ≡ ex.voices → take n other ≡ take n col

@@ -1,5 +1,5 @@
 -- All rules and tolls by their numbers: their rows stand in the rule crates.
-use Rattle.std.specs.Prelude.{ℕ, ◌==◌, not, Bool, List, ◌++◌}
+use Rattle.std.specs.Prelude.{ℕ, ◌==◌, not, Bool, List}
 use Rattle.std.specs.List.{filter, list_any, range_with_len}
 use Rattle.fux_grid.specs.declared.exercise.Exercise.{Exercise}
 use Rattle.fux_grid.specs.Exercises.{greatest_mixed_rule}
@@ -99,7 +99,8 @@ is_cost_settled toll ex = settled_by (cost_enough toll ex)
 abbrev pub is_read : ℕ → Bool
 is_read rule = list_any (λ read. rule == read) rules_read
 
--- a rule is read when its column is among the newest ones: it may be settled later than at its own column
+-- a rule is read when its column is among the newest ones: it may be settled later than at its own
+-- column
 abbrev pub is_late : ℕ → Bool
 is_late rule = (rule_at rule).late
 

@@ -10,12 +10,14 @@ use Rattle.fux_judge.specs.declared.past.Past.{Past}
 use Rattle.fux_judge.specs.declared.state.State.{State}
 use Rattle.fux_judge.specs.GaugeStates.{AreAheadOf, AreGaugesOf}
 
--- the crates' parts are of the columns: the notes of each voice for melody, the shapes of the newest bar for rhythm
+-- the crates' parts are of the columns: the notes of each voice for melody, the shapes of the
+-- newest bar for rhythm
 pub record IsPastOf (ex : Exercise) (p : List (List Cell)) (past : Past) : Type 0 where
   pub melody : AreNotesOf (reverse p) past.parts.first
   pub rhythm : IsShapesOf ex p past.parts.second.second.second.first
 
--- the state is of the prefix: it knows its length and its newest columns, and what the crates keep is of it
+-- the state is of the prefix: it knows its length and its newest columns, and what the crates keep
+-- is of it
 pub record IsStateOf (ex : Exercise) (p : List (List Cell)) (state : State) : Type 0 where
   pub newest : AreNewestOf ex.voices p state.newest
   pub past : IsPastOf ex p state.past

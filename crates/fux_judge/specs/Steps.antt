@@ -1,4 +1,5 @@
--- What one column settles, as it is read: of rules and tolls that are settled at once at its own place, of late ones at their places.
+-- What one column settles, as it is read: of rules and tolls that are settled at once at its own
+-- place, of late ones at their places.
 use Rattle.std.specs.Prelude.{ℕ, ◌+◌, ◌*◌, ◌==◌, Bool, ◌&&◌, List, [], ◌∷◌, ◌++◌, length, if◌then◌else◌}
 use Rattle.std.specs.List.{list_any, sum_by}
 use Rattle.fux_grid.specs.declared.cell.Cell.{Cell}

@@ -35,7 +35,8 @@ pub(crate) struct LineAhead {
 fn last_high(ex: &Exercise, v: u8) -> u8
     requires valid { IsValid ex.now }
     requires free { IsFree ex.now v }
-    ensures { (key : ℕ) → key < result → is_topped ex.now v (pos key) (columns_in ex.now - 8) ≡ false }
+    ensures { (key : ℕ) → key < result → is_topped ex.now v (pos key) (columns_in ex.now - 8)
+        ≡ false }
 {
     if !menu_starts(ex, v, 8 * (ex.bars as usize) - 8) {
         return 0;
@@ -56,7 +57,8 @@ fn greater(key: u8, other: u8) -> u8
 fn highest(ex: &Exercise, v: u8) -> u8
     requires valid { IsValid ex.now }
     requires free { IsFree ex.now v }
-    ensures { (key : ℕ) → result ≤ key → (j : ℕ) → j < columns_in ex.now → is_topped ex.now v (pos key) j ≡ true }
+    ensures { (key : ℕ) → result ≤ key → (j : ℕ) → j < columns_in ex.now → is_topped ex.now v
+        (pos key) j ≡ true }
 {
     let mut highest = 0;
     for bar in 1..ex.bars + 1 {
@@ -96,7 +98,8 @@ pub(crate) fn all_ahead_at_start(ex: &Exercise) -> [LineAhead; 4]
     ]
 }
 
-/// Whether nothing is given of a voice's cell at a column: then each pitch that it may hold may be started too, where a start is allowed.
+/// Whether nothing is given of a voice's cell at a column: then each pitch that it may hold may be
+/// started too, where a start is allowed.
 fn is_open(ex: &Exercise, v: u8, i: usize) -> bool
     requires { i < columns_in ex.now }
     ensures { OnTrue result (given_at ex.now i v ≡ Blank) }
@@ -107,12 +110,14 @@ fn is_open(ex: &Exercise, v: u8, i: usize) -> bool
     }
 }
 
-/// Whether the menu of a column has a start of a free voice, where the voice has this cell in one of its columns.
+/// Whether the menu of a column has a start of a free voice, where the voice has this cell in one
+/// of its columns.
 fn may_start(ex: &Exercise, v: u8, i: usize, cell: Cell) -> bool
     requires valid { IsValid ex.now }
     requires free { IsFree ex.now v }
     requires place { i < columns_in ex.now }
-    ensures { (col : List ACell) → IsInMenu ex.now i col → cell_in col v ≡ cell → result ≡ words.menu_starts ex.now v i }
+    ensures { (col : List ACell) → IsInMenu ex.now i col → cell_in col v ≡ cell → result
+        ≡ words.menu_starts ex.now v i }
 {
     let shapes = shapes_of(species_of(ex, v), bar_of(i), ex.bars);
     if !allows(shapes, slot_of(i), START) {
@@ -143,19 +148,22 @@ fn pass(ex: &Exercise, v: u8, i: usize, ahead: &mut LineAhead, cell: Cell)
 pub(crate) fn pass_all(ex: &Exercise, i: usize, ahead: &mut [LineAhead; 4], column: &[Cell])
     requires valid { IsValid ex.now }
     requires place { i < columns_in ex.now }
-    ensures { (p : List (List ACell)) → length p ≡ i → AreAheadOf ex.now p ahead.old → AreAheadOf ex.now (p ++ column.now ∷ []) ahead.new }
+    ensures { (p : List (List ACell)) → length p ≡ i → AreAheadOf ex.now p ahead.old
+        → AreAheadOf ex.now (p ++ column.now ∷ []) ahead.new }
 {
     for v in 0..4 {
         pass(ex, v as u8, i, &mut ahead[v], cell_of(column, v));
     }
 }
 
-/// Whether no column from column `i` on is a place for a note above the key. What lies ahead mostly tells it at once.
+/// Whether no column from column `i` on is a place for a note above the key. What lies ahead mostly
+/// tells it at once.
 pub(crate) fn is_final(ex: &Exercise, v: u8, i: usize, ahead: &LineAhead, key: u8) -> bool
     requires valid { IsValid ex.now }
     requires free { IsFree ex.now v }
     requires place { i ≤ columns_in ex.now }
-    ensures { IsAheadOf ex.now v i ahead.now → result ≡ gauges_words.is_final_climax ex.now v i (pos key) }
+    ensures { IsAheadOf ex.now v i ahead.now → result ≡ gauges_words.is_final_climax ex.now v i
+        (pos key) }
 {
     if key >= ahead.highest || ahead.starts == 0 {
         return true;

@@ -1,4 +1,5 @@
-//! The crates of rules as one. Whatever the judge reads of a rule or a toll, it reads here by its number.
+//! The crates of rules as one. Whatever the judge reads of a rule or a toll, it reads here by its
+//! number.
 
 ghost use Rattle.std.specs.Prelude.{◌≡◌};
 ghost use Rattle.fux_judge.specs.Rules.{rule_at};

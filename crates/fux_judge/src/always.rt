@@ -94,8 +94,9 @@ fn is_broken_by(ex: &Exercise, i: usize, now: &[Cell], voices: VoiceSet) -> bool
         || end_apart(ex, i, now, voices)
 }
 
-/// Whether column `i` settles a strict break after every prefix, by what it sounds: two voices clash, cross or meet, or the
-/// ending doesn't fit. Where it answers no, a column may be dead all the same. It takes no memory.
+/// Whether column `i` settles a strict break after every prefix, by what it sounds: two voices
+/// clash, cross or meet, or the ending doesn't fit. Where it answers no, a column may be dead all
+/// the same. It takes no memory.
 pub fn is_always_dead(ex: &Exercise, i: usize, col: &Column) -> bool
     requires valid { IsValid ex.now }
     requires place { i < columns_in ex.now }

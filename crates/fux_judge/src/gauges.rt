@@ -44,7 +44,8 @@ pub(crate) fn all_ungauged() -> [LineGauges; 4]
 fn gauge(ex: &Exercise, v: u8, i: usize, kept: &mut LineGauges, cell: Cell)
     requires valid { IsValid ex.now }
     requires place { i < columns_in ex.now }
-    ensures { (cells : List ACell) → length cells ≡ i → IsGaugesOf cells kept.old → IsGaugesOf (cell ∷ cells) kept.new }
+    ensures { (cells : List ACell) → length cells ≡ i → IsGaugesOf cells kept.old
+        → IsGaugesOf (cell ∷ cells) kept.new }
 {
     match cell {
         Cell::Start(_) => {
@@ -62,7 +63,8 @@ fn gauge(ex: &Exercise, v: u8, i: usize, kept: &mut LineGauges, cell: Cell)
 pub(crate) fn gauge_all(ex: &Exercise, i: usize, kept: &mut [LineGauges; 4], column: &[Cell])
     requires valid { IsValid ex.now }
     requires place { i < columns_in ex.now }
-    ensures { (behind : List (List ACell)) → length behind ≡ i → AreGaugesOf behind kept.old → AreGaugesOf (column.now ∷ behind) kept.new }
+    ensures { (behind : List (List ACell)) → length behind ≡ i → AreGaugesOf behind kept.old
+        → AreGaugesOf (column.now ∷ behind) kept.new }
 {
     for v in 0..4 {
         gauge(ex, v as u8, i, &mut kept[v], cell_of(column, v));
@@ -83,7 +85,8 @@ pub(crate) fn weighed(sheet: &Sheet, climax: u8, compass: bool, leaps: u32, stri
 
 /// What a whole line costs.
 pub(crate) fn cost_of_line(sheet: &Sheet, kept: &LineGauges) -> u64
-    ensures value { (cells : List ACell) → IsGaugesOf cells kept.now → result ≡ gauges_words.cost_of_line sheet.now cells }
+    ensures value { (cells : List ACell) → IsGaugesOf cells kept.now → result
+        ≡ gauges_words.cost_of_line sheet.now cells }
     ensures bound { result ≤ 83622660 }
 {
     weighed(

@@ -14,11 +14,13 @@ use motion_rules::are_clear;
 use rhythm_cadence::{are_in_place, begins_last_bar};
 use rule_law::begins_bar;
 
-/// The rules that are left to read: the column keeps all others. It mostly passes the tests, and then few are left, or none.
+/// The rules that are left to read: the column keeps all others. It mostly passes the tests, and
+/// then few are left, or none.
 pub(crate) fn rules_left(m: &Moment<'_>) -> &'static [u8]
     requires { IsReadable m.now }
     ensures numbers { IsTrue (list_all (λ rule. nat_lt rule 32 && not (is_late rule)) result.now) }
-    ensures kept { (p : Columns) → IsAfter p m.now → (r : ℕ) → breaks_one_of result.now p m.now r ≡ breaks_one_of rules_at_once p m.now r }
+    ensures kept { (p : Columns) → IsAfter p m.now → (r : ℕ) → breaks_one_of result.now p m.now r
+        ≡ breaks_one_of rules_at_once p m.now r }
 {
     if !are_smooth(m.exercise, &m.state.past.parts.first, m.column) {
         return all_at_once();

@@ -61,7 +61,8 @@ fn places_left(rule: u8, ex: &Exercise, next: &State) -> LatePlaces
     AllRules::places_left(&next.newest, rule, ex)
 }
 
-/// Whether the newest column settles a break of a late rule, at one of its places, as its crate says.
+/// Whether the newest column settles a break of a late rule, at one of its places, as its crate
+/// says.
 #[tactic(auto, unfolding(crate::specs::Rules::rule_at))]
 #[inline(always)]
 fn breaks_at(rule: u8, ex: &Exercise, next: &State, voices: VoiceSet, place: usize) -> bool
@@ -69,7 +70,8 @@ fn breaks_at(rule: u8, ex: &Exercise, next: &State, voices: VoiceSet, place: usi
     requires valid { IsValid ex.now }
     requires begun { 0 < next.now.newest.len }
     requires room { next.now.newest.len ≤ columns_in ex.now }
-    ensures { TellsAtPlace rule ex.now next.now place (λ p col. newly_breaks (rule_at rule) ex.now voices.bits p col place) result }
+    ensures { TellsAtPlace rule ex.now next.now place (λ p col. newly_breaks (rule_at rule) ex.now
+        voices.bits p col place) result }
 {
     AllRules::breaks_late(&next.past.parts, &next.newest, rule, ex, voices, place)
 }
@@ -81,7 +83,8 @@ fn breaks_strictly_at(rule: u8, ex: &Exercise, next: &State, voices: VoiceSet, p
     requires begun { 0 < next.now.newest.len }
     requires room { next.now.newest.len ≤ columns_in ex.now }
     requires place { place < columns_in ex.now }
-    ensures { TellsAtPlace rule ex.now next.now place (λ p col. newly_broken_at rule ex.now voices.bits p col place) result }
+    ensures { TellsAtPlace rule ex.now next.now place (λ p col. newly_broken_at rule ex.now
+        voices.bits p col place) result }
 {
     if !breaks_at(rule, ex, next, voices, place) {
         return false;
@@ -96,7 +99,8 @@ fn price_settled(rule: u8, ex: &Exercise, next: &State, voices: VoiceSet, place:
     requires begun { 0 < next.now.newest.len }
     requires room { next.now.newest.len ≤ columns_in ex.now }
     requires place { place < columns_in ex.now }
-    ensures value { TellsAtPlace rule ex.now next.now place (λ p col. new_price ex.now p col place rule voices.bits) result }
+    ensures value { TellsAtPlace rule ex.now next.now place (λ p col. new_price ex.now p col place
+        rule voices.bits) result }
     ensures bound { result ≤ 10000 }
 {
     if !breaks_at(rule, ex, next, voices, place) {
@@ -105,14 +109,16 @@ fn price_settled(rule: u8, ex: &Exercise, next: &State, voices: VoiceSet, place:
     u64::from(price_at(ex, rule, voices, bar_of(place)).amount())
 }
 
-/// Whether the newest column settles a strict break of a late rule at a place, for one of these sets of voices.
+/// Whether the newest column settles a strict break of a late rule at a place, for one of these
+/// sets of voices.
 fn breaks_for(rule: u8, ex: &Exercise, next: &State, place: usize, sets: &[u8]) -> bool
     requires late { is_late rule ≡ true }
     requires valid { IsValid ex.now }
     requires begun { 0 < next.now.newest.len }
     requires room { next.now.newest.len ≤ columns_in ex.now }
     requires place { place < columns_in ex.now }
-    ensures { TellsAtPlace rule ex.now next.now place (λ p col. steps.newly_broken_for sets.now rule ex.now p col place) result }
+    ensures { TellsAtPlace rule ex.now next.now place (λ p col. steps.newly_broken_for sets.now rule
+        ex.now p col place) result }
 {
     for bits in sets {
         if breaks_strictly_at(rule, ex, next, VoiceSet { bits: *bits }, place) {
@@ -130,7 +136,8 @@ fn prices_for(rule: u8, ex: &Exercise, next: &State, place: usize, sets: &[u8]) 
     requires room { next.now.newest.len ≤ columns_in ex.now }
     requires place { place < columns_in ex.now }
     requires few { length sets.now ≤ 6 }
-    ensures value { TellsAtPlace rule ex.now next.now place (λ p col. sum_by (new_price ex.now p col place rule) sets.now) result }
+    ensures value { TellsAtPlace rule ex.now next.now place
+        (λ p col. sum_by (new_price ex.now p col place rule) sets.now) result }
     ensures bound { result ≤ 60000 }
 {
     let mut sum = 0u64;
@@ -169,7 +176,8 @@ fn prices_of_late(rule: u8, ex: &Exercise, next: &State) -> u64
     requires valid { IsValid ex.now }
     requires begun { 0 < next.now.newest.len }
     requires room { next.now.newest.len ≤ columns_in ex.now }
-    ensures value { TellsOfNewest ex.now next.now (λ p col. steps.prices_late ex.now p col rule) result }
+    ensures value { TellsOfNewest ex.now next.now (λ p col. steps.prices_late ex.now p col rule)
+        result }
     ensures bound { result ≤ 1440000 }
 {
     let places = places_of(rule, ex, next);
@@ -208,7 +216,8 @@ pub(crate) fn settles_late_break(ex: &Exercise, next: &State) -> bool
     requires valid { IsValid ex.now }
     requires begun { 0 < next.now.newest.len }
     requires room { next.now.newest.len ≤ columns_in ex.now }
-    ensures { TellsOfNewest ex.now next.now (λ p col. list_any (steps.breaks_late ex.now p col) late_rules) result }
+    ensures { TellsOfNewest ex.now next.now (λ p col. list_any (steps.breaks_late ex.now p col)
+        late_rules) result }
 {
     AllRules::asks_some(&BreaksLate { exercise: ex, next })
 }
@@ -233,7 +242,8 @@ pub(crate) fn late_prices(ex: &Exercise, next: &State) -> u64
     requires valid { IsValid ex.now }
     requires begun { 0 < next.now.newest.len }
     requires room { next.now.newest.len ≤ columns_in ex.now }
-    ensures value { TellsOfNewest ex.now next.now (λ p col. sum_by (steps.prices_late ex.now p col) late_rules) result }
+    ensures value { TellsOfNewest ex.now next.now (λ p col. sum_by (steps.prices_late ex.now p col)
+        late_rules) result }
     ensures bound { result ≤ 17280000 }
 {
     if ex.relax.as_slice().is_empty() {

@@ -45,14 +45,16 @@ fn places_of(toll: u8, ex: &Exercise, next: &State) -> LatePlaces
     places_at(toll, ex, next.newest.len - 1)
 }
 
-/// What the newest column settles of a late toll at one of its places, without its weight, as its crate says.
+/// What the newest column settles of a late toll at one of its places, without its weight, as its
+/// crate says.
 #[tactic(auto, unfolding(crate::specs::Rules::toll_at))]
 fn cost_at(toll: u8, ex: &Exercise, next: &State, place: usize) -> u32
     requires late { is_late_toll toll ≡ true }
     requires valid { IsValid ex.now }
     requires begun { 0 < next.now.newest.len }
     requires room { next.now.newest.len ≤ columns_in ex.now }
-    ensures value { TellsAtPlaceOfCost toll ex.now next.now place (λ p col. newly_costs (toll_at toll) ex.now p col place) result }
+    ensures value { TellsAtPlaceOfCost toll ex.now next.now place
+        (λ p col. newly_costs (toll_at toll) ex.now p col place) result }
     ensures bound { result ≤ 6 }
 {
     AllRules::cost_late(&next.newest, toll, ex, place)
@@ -64,7 +66,8 @@ fn charge_at(toll: u8, sheet: &Sheet, ex: &Exercise, next: &State, place: usize)
     requires valid { IsValid ex.now }
     requires begun { 0 < next.now.newest.len }
     requires room { next.now.newest.len ≤ columns_in ex.now }
-    ensures value { TellsAtPlaceOfCost toll ex.now next.now place (λ p col. new_toll ex.now sheet.now p col place toll) result }
+    ensures value { TellsAtPlaceOfCost toll ex.now next.now place
+        (λ p col. new_toll ex.now sheet.now p col place toll) result }
     ensures bound { result ≤ 393210 }
 {
     u64::from(cost_at(toll, ex, next, place)) * u64::from(weight(sheet, toll))
@@ -77,7 +80,8 @@ fn charges_of(toll: u8, sheet: &Sheet, ex: &Exercise, next: &State) -> u64
     requires valid { IsValid ex.now }
     requires begun { 0 < next.now.newest.len }
     requires room { next.now.newest.len ≤ columns_in ex.now }
-    ensures value { TellsOfNewest ex.now next.now (λ p col. steps.toll_late ex.now sheet.now p col toll) result }
+    ensures value { TellsOfNewest ex.now next.now (λ p col. steps.toll_late ex.now sheet.now p col
+        toll) result }
     ensures bound { result ≤ 9437040 }
 {
     let places = places_of(toll, ex, next);
@@ -89,14 +93,15 @@ fn charges_of(toll: u8, sheet: &Sheet, ex: &Exercise, next: &State) -> u64
     sum
 }
 
-/// What the newest column settles of all late tolls. Each is asked by its own number, so that what depends on the number alone is
-/// settled before the program runs.
+/// What the newest column settles of all late tolls. Each is asked by its own number, so that what
+/// depends on the number alone is settled before the program runs.
 #[tactic(auto, unfolding(crate::specs::Rules::toll_at))]
 pub(crate) fn late_charges(sheet: &Sheet, ex: &Exercise, next: &State) -> u64
     requires valid { IsValid ex.now }
     requires begun { 0 < next.now.newest.len }
     requires room { next.now.newest.len ≤ columns_in ex.now }
-    ensures value { TellsOfNewest ex.now next.now (λ p col. sum_by (steps.toll_late ex.now sheet.now p col) late_tolls) result }
+    ensures value { TellsOfNewest ex.now next.now
+        (λ p col. sum_by (steps.toll_late ex.now sheet.now p col) late_tolls) result }
     ensures bound { result ≤ 94370400 }
 {
     charges_of(3, sheet, ex, next)

@@ -1,4 +1,5 @@
-//! Settled breaks and penalties, column by column: one small state stands for a prefix of any length.
+//! Settled breaks and penalties, column by column: one small state stands for a prefix of any
+//! length.
 #![tactic(auto)]
 
 mod ahead;

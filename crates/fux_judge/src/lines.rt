@@ -43,7 +43,8 @@ fn least_of_line(
     requires valid { IsValid ex.now }
     requires free { IsFree ex.now v }
     requires place { i ≤ columns_in ex.now }
-    ensures value { TellsOfLine ex.now v i kept.now ahead.now (words.least_of_line ex.now sheet.now v) result }
+    ensures value { TellsOfLine ex.now v i kept.now ahead.now (words.least_of_line ex.now sheet.now
+        v) result }
     ensures bound { result ≤ 83622660 }
 {
     let climax = climax_repeats(ex, v, i, kept, ahead);
@@ -57,7 +58,8 @@ fn least_of_voice(ex: &Exercise, sheet: &Sheet, v: u8, state: &State) -> u64
     requires valid { IsValid ex.now }
     requires voice { v < ex.now.voices }
     requires room { state.now.newest.len ≤ columns_in ex.now }
-    ensures value { AtPrefix ex.now state.now (λ p. result ≡ words.least_of_voice ex.now sheet.now v p) }
+    ensures value { AtPrefix ex.now state.now (λ p. result ≡ words.least_of_voice ex.now sheet.now v
+        p) }
     ensures bound { result ≤ 83622660 }
 {
     if !is_free(ex, v) {
@@ -74,7 +76,8 @@ fn least_of_voice(ex: &Exercise, sheet: &Sheet, v: u8, state: &State) -> u64
     )
 }
 
-/// What the lines of the free voices cost at least, by the gauges' weights, in each setting that the state's prefix begins.
+/// What the lines of the free voices cost at least, by the gauges' weights, in each setting that
+/// the state's prefix begins.
 pub fn least(ex: &Exercise, sheet: &Sheet, state: &State) -> u64
     requires valid { IsValid ex.now }
     requires room { state.now.newest.len ≤ columns_in ex.now }

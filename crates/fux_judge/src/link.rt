@@ -146,7 +146,8 @@ pub(crate) fn charge(toll: u8, sheet: &Sheet, link: &Link<'_>) -> u64
 /// What these tolls of neighbors cost there together, by weight.
 fn charges(tolls: &[u8], sheet: &Sheet, link: &Link<'_>) -> u64
     requires kinds { IsTrue (list_all is_toll_between tolls.now) }
-    requires numbers { IsTrue (list_all (λ toll. nat_le 1 toll && nat_le toll greatest_toll) tolls.now) }
+    requires numbers { IsTrue (list_all (λ toll. nat_le 1 toll && nat_le toll greatest_toll)
+        tolls.now) }
     requires few { length tolls.now ≤ greatest_toll }
     requires link { IsLink link.now }
     ensures value { result ≡ sum_by (charge_at_link sheet.now link.now) tolls.now }
@@ -159,8 +160,8 @@ fn charges(tolls: &[u8], sheet: &Sheet, link: &Link<'_>) -> u64
     sum
 }
 
-/// What a column costs by itself at place `i`, whatever stands before it: the tolls of a column, by weight. None exactly where
-/// it makes a strict break of a rule of a column.
+/// What a column costs by itself at place `i`, whatever stands before it: the tolls of a column, by
+/// weight. None exactly where it makes a strict break of a rule of a column.
 pub fn column_cost<'a>(
     ex: &'a Exercise<'a>,
     sheet: &Sheet,
@@ -183,8 +184,8 @@ pub fn column_cost<'a>(
     Some(charges(column_tolls(), sheet, &link))
 }
 
-/// What a column costs at place `i` behind `prev`, by the rules and tolls of pairs alone. None exactly where the two make a
-/// strict break of one of these rules.
+/// What a column costs at place `i` behind `prev`, by the rules and tolls of pairs alone. None
+/// exactly where the two make a strict break of one of these rules.
 pub fn pair_cost<'a>(
     ex: &'a Exercise<'a>,
     sheet: &Sheet,
@@ -207,8 +208,9 @@ pub fn pair_cost<'a>(
     Some(pair_charges(sheet, &link))
 }
 
-/// What a column costs at place `i` behind `prev` by the rules and tolls that read two neighbors alone: the tolls of a column
-/// and of a pair, by weight. None exactly where the two make a strict break of such a rule.
+/// What a column costs at place `i` behind `prev` by the rules and tolls that read two neighbors
+/// alone: the tolls of a column and of a pair, by weight. None exactly where the two make a strict
+/// break of such a rule.
 pub fn link_cost<'a>(
     ex: &'a Exercise<'a>,
     sheet: &Sheet,

@@ -75,8 +75,9 @@ fn breaks_one(ex: &Exercise, i: usize, v: u8, before: Cell, next: Cell) -> bool
         || breaks_strictly(26, ex, i, v, before, next)
 }
 
-/// What the move of a voice costs at place `i`, from its cell in the column before to its cell there: the rules S4, S5 and S26 and
-/// the tolls Q7 to Q10 read nothing else. None exactly where it makes a strict break of one of these rules. The cantus pays nothing.
+/// What the move of a voice costs at place `i`, from its cell in the column before to its cell
+/// there: the rules S4, S5 and S26 and the tolls Q7 to Q10 read nothing else. None exactly where it
+/// makes a strict break of one of these rules. The cantus pays nothing.
 #[inline]
 pub fn move_cost(
     ex: &Exercise,
@@ -100,7 +101,8 @@ pub fn move_cost(
     Some(charge_of_move(sheet, before.pitch(), next))
 }
 
-/// No weight of a toll of moves is greater than a weight may be: a theorem, which costs nothing when it's called.
+/// No weight of a toll of moves is greater than a weight may be: a theorem, which costs nothing
+/// when it's called.
 #[inline(always)]
 fn weighs_little(sheet: &Sheet)
     ensures repetition { weight_of sheet.now 7 ≤ 65535 }
@@ -114,8 +116,9 @@ fn weighs_little(sheet: &Sheet)
     let _leap = weight(sheet, 10);
 }
 
-/// What a column costs at place `i` behind `prev`, by the rules and tolls of pairs alone, where it is known what the voices' moves
-/// cost: the rules and tolls of melody are not read again. None exactly where the two make a strict break of one of these rules.
+/// What a column costs at place `i` behind `prev`, by the rules and tolls of pairs alone, where it
+/// is known what the voices' moves cost: the rules and tolls of melody are not read again. None
+/// exactly where the two make a strict break of one of these rules.
 #[inline]
 pub fn pair_cost_from<'a>(
     ex: &'a Exercise<'a>,
@@ -142,10 +145,11 @@ pub fn pair_cost_from<'a>(
     Some(moves + joint_charges(sheet, &link))
 }
 
-/// Where two columns may follow one another, what the moves of the voices cost is told, and is no more than what the two cost:
-/// a theorem, which costs nothing when it's called.
+/// Where two columns may follow one another, what the moves of the voices cost is told, and is no
+/// more than what the two cost: a theorem, which costs nothing when it's called.
 #[tactic(auto, using(crate::proofs::MoveLinks::moves_are_least))]
 pub fn moves_are_least()
     ensures { (ex : AnExercise) (sheet : ASheet) (i : ℕ) (before next : List ACell) (x : ℕ)
-        → pair_of ex sheet i (Some before) next ≡ Some x → IsSomeAnd (moves_of ex sheet i before next) (λ y. y ≤ x) }
+        → pair_of ex sheet i (Some before) next ≡ Some x
+        → IsSomeAnd (moves_of ex sheet i before next) (λ y. y ≤ x) }
 {}

@@ -1,5 +1,6 @@
-//! The numbers of rules and tolls: which there are, which are settled at once and which are late, and which are
-//! left to read where a test tells of the others. Each list is the table's, by its clause.
+//! The numbers of rules and tolls: which there are, which are settled at once and which are late,
+//! and which are left to read where a test tells of the others. Each list is the table's, by its
+//! clause.
 
 ghost use Rattle.std.specs.Prelude.{◌≡◌, ◌≤◌, ◌&&◌, not, nat_le, nat_lt, ℕ, IsTrue, length};
 ghost use Rattle.std.specs.List.{filter, list_all, range_with_len};
@@ -28,7 +29,8 @@ const LATE_RULES: [u8; 11] = [3, 15, 18, 19, 20, 21, 22, 23, 25, 27, 28];
 /// The rules that are settled at once.
 const RULES_AT_ONCE: [u8; 17] = [1, 2, 4, 5, 6, 7, 8, 9, 10, 11, 12, 13, 14, 16, 17, 24, 26];
 
-/// Those of them that are left where a column is smooth, clear and in place: they are of the last bar's beginning, or of any bar's.
+/// Those of them that are left where a column is smooth, clear and in place: they are of the last
+/// bar's beginning, or of any bar's.
 const AT_THE_END: [u8; 4] = [11, 13, 14, 24];
 
 /// Those of these that are of any bar's beginning.
@@ -125,7 +127,8 @@ pub(crate) fn column_rules() -> &'static [u8]
 pub fn every_toll() -> &'static [u8]
     ensures value { result.now ≡ tolls_read }
     ensures table { result.now ≡ filter all_rules.has_toll (range_with_len 1 greatest_toll) }
-    ensures numbers { IsTrue (list_all (λ toll. nat_le 1 toll && nat_le toll greatest_toll) result.now) }
+    ensures numbers { IsTrue (list_all (λ toll. nat_le 1 toll && nat_le toll greatest_toll)
+        result.now) }
     ensures few { length result.now ≤ greatest_toll }
 {
     &TOLLS
@@ -136,7 +139,8 @@ pub fn every_toll() -> &'static [u8]
 pub(crate) fn column_tolls() -> &'static [u8]
     ensures value { result.now ≡ links.column_tolls }
     ensures kinds { IsTrue (list_all is_toll_between result.now) }
-    ensures numbers { IsTrue (list_all (λ toll. nat_le 1 toll && nat_le toll greatest_toll) result.now) }
+    ensures numbers { IsTrue (list_all (λ toll. nat_le 1 toll && nat_le toll greatest_toll)
+        result.now) }
     ensures few { length result.now ≤ greatest_toll }
 {
     &COLUMN_TOLLS

@@ -1,5 +1,6 @@
-//! The rules and tolls that need the column before, each by its number and each set of voices by its bits: where both are known,
-//! no table is looked up, and of a pair of columns only the cells are read that the rule or toll is of.
+//! The rules and tolls that need the column before, each by its number and each set of voices by
+//! its bits: where both are known, no table is looked up, and of a pair of columns only the cells
+//! are read that the rule or toll is of.
 
 ghost use Rattle.std.specs.Prelude.{◌≡◌, ◌≤◌, ◌^◌, true};
 ghost use Rattle.std.specs.List.{list_any, sum_by};
@@ -77,7 +78,8 @@ pub(crate) fn breaks_joint_rule(link: &Link<'_>) -> bool
         || breaks_rule_of_pairs(17, link)
 }
 
-/// What the tolls that need the column before, and aren't of melody, cost there together, by weight.
+/// What the tolls that need the column before, and aren't of melody, cost there together, by
+/// weight.
 #[inline(always)]
 #[tactic(auto, unfolding(crate::specs::Moves::joint_tolls, crate::specs::Links::pair_tolls, crate::specs::Rules::tolls_read, crate::specs::Rules::toll_at))]
 pub(crate) fn joint_charges(sheet: &Sheet, link: &Link<'_>) -> u64

@@ -13,8 +13,9 @@ use fux_grid::{Cell, Exercise, Score, VoiceSet};
 use melody_rules::latest_of_notes;
 use rule_law::{Latest, RuleCrate};
 
-/// What the crates of rules keep of the columns of a list, beside the newest ones, enough to read each rule that is settled at once in the
-/// column that follows. It has a fixed size and takes no memory.
+/// What the crates of rules keep of the columns of a list, beside the newest ones, enough to read
+/// each rule that is settled at once in the column that follows. It has a fixed size and takes no
+/// memory.
 #[derive(Clone, Copy, Debug, PartialEq, Eq)]
 pub struct Past {
     /// The parts of the crates, in the order of `AllRules`: that of melody is `parts.first`.
@@ -35,7 +36,8 @@ impl Past {
     pub fn with(&self, ex: &Exercise, i: usize, column: &[Cell]) -> Past
         requires valid { IsValid ex.now }
         requires place { i < columns_in ex.now }
-        ensures { (p : Columns) → length p ≡ i → IsPastOf ex.now p self.now → IsPastOf ex.now (p ++ column.now ∷ []) result }
+        ensures { (p : Columns) → length p ≡ i → IsPastOf ex.now p self.now
+            → IsPastOf ex.now (p ++ column.now ∷ []) result }
     {
         Past {
             parts: AllRules::noted(&self.parts, ex, i, column),
@@ -44,13 +46,14 @@ impl Past {
 
     /// The pitch of each voice's latest note.
     pub fn latest(&self) -> Latest
-        ensures { (ex : AnExercise) (p : Columns) → IsPastOf ex p self.now → result.pitches ≡ previous_pitches (reverse p) }
+        ensures { (ex : AnExercise) (p : Columns) → IsPastOf ex p self.now → result.pitches
+            ≡ previous_pitches (reverse p) }
     {
         latest_of_notes(&self.parts.first)
     }
 
-    /// Whether a rule is broken at column `i` of a score for a set of voices, where this is kept of the columns before: no voice's notes are
-    /// looked for anew.
+    /// Whether a rule is broken at column `i` of a score for a set of voices, where this is kept of
+    /// the columns before: no voice's notes are looked for anew.
     pub fn breaks(
         &self,
         rule: u8,
@@ -65,7 +68,8 @@ impl Past {
         requires few { length score.now.columns ≤ columns_in ex.now }
         requires place { i < length score.now.columns }
         requires past { IsPastOf ex.now (take i score.now.columns) self.now }
-        requires latest { latest.now.pitches ≡ previous_pitches (reverse (take i score.now.columns)) }
+        requires latest { latest.now.pitches ≡ previous_pitches
+            (reverse (take i score.now.columns)) }
         ensures { result ≡ rules.is_broken rule ex.now voices.bits score.now.columns i }
     {
         if AllRules::is_late(rule) {

@@ -64,7 +64,8 @@ fn breaks_one(rules: &[u8], voices: VoiceSet, m: &Moment<'_>) -> bool
     false
 }
 
-/// Whether a voice alone breaks a rule strictly: one of melody. Where nothing is relaxed, it doesn't matter which.
+/// Whether a voice alone breaks a rule strictly: one of melody. Where nothing is relaxed, it
+/// doesn't matter which.
 fn breaks_alone(voice: u8, voices: VoiceSet, m: &Moment<'_>) -> bool
     requires low { voice < 4 }
     requires alone { one_voice voices.bits ≡ Some voice }
@@ -80,7 +81,8 @@ fn breaks_alone(voice: u8, voices: VoiceSet, m: &Moment<'_>) -> bool
     breaks_one(&WHERE_IT_STARTS, voices, m)
 }
 
-/// Whether two voices break a rule strictly by moving together, which takes a perfect interval in which both start.
+/// Whether two voices break a rule strictly by moving together, which takes a perfect interval in
+/// which both start.
 fn breaks_together(lower: u8, upper: u8, voices: VoiceSet, m: &Moment<'_>) -> bool
     requires readable { IsReadable m.now }
     ensures { OnTrue result (IsDeadBy voices.bits m.now) }
@@ -125,7 +127,8 @@ fn leaves_shapes(voice: usize, m: &Moment<'_>) -> bool
     false
 }
 
-/// Whether a voice breaks a rule strictly, alone or with a lower one. Its shapes are asked first, which takes least.
+/// Whether a voice breaks a rule strictly, alone or with a lower one. Its shapes are asked first,
+/// which takes least.
 fn breaks_with(voice: usize, m: &Moment<'_>) -> bool
     requires voice { voice < 4 }
     requires readable { IsReadable m.now }
@@ -160,7 +163,8 @@ fn reaches(cost: u64, limit: Option<u64>) -> bool
 #[inline]
 fn charge_for(limit: Option<u64>, sheet: &Sheet, m: &Moment<'_>, voice: usize) -> u64
     requires { voice < 4 }
-    ensures value { (p : Columns) → IsAfter p m.now → result ≤ voice_charge m.now.exercise.now sheet.now p m.now.column.now voice }
+    ensures value { (p : Columns) → IsAfter p m.now → result ≤ voice_charge m.now.exercise.now
+        sheet.now p m.now.column.now voice }
     ensures bound { result ≤ 131070 }
 {
     if limit.is_none() {
@@ -173,7 +177,8 @@ fn charge_for(limit: Option<u64>, sheet: &Sheet, m: &Moment<'_>, voice: usize) -
 fn costs_too_much(limit: Option<u64>, least: u64, sheet: &Sheet, m: &Moment<'_>) -> bool
     requires little { least ≤ 524280 }
     requires readable { IsReadable m.now }
-    ensures { OnTrue result (IsSomeAnd limit (λ most. (p : Columns) → IsAfter p m.now → most ≤ least + pairs_then sheet.now p m.now)) }
+    ensures { OnTrue result (IsSomeAnd limit (λ most. (p : Columns) → IsAfter p m.now → most ≤ least
+        + pairs_then sheet.now p m.now)) }
 {
     match limit {
         Some(most) => least + charges_of_pairs(sheet, m) >= most,
@@ -181,11 +186,12 @@ fn costs_too_much(limit: Option<u64>, least: u64, sheet: &Sheet, m: &Moment<'_>)
     }
 }
 
-/// How many voices, counted from the lowest, prune a column by their cells alone: then every column with the same cells in these
-/// voices settles a strict break, or costs the limit or more. None where no such reason was found; there may be one all the same:
-/// what a column sounds isn't asked again, since `is_always_dead` tells of it. So many of the lowest voices as have been tried are only
-/// asked what they cost: whoever has asked them of an earlier column with the same cells spares the question. Whatever the number is, what
-/// is told holds. It takes no memory.
+/// How many voices, counted from the lowest, prune a column by their cells alone: then every column
+/// with the same cells in these voices settles a strict break, or costs the limit or more. None
+/// where no such reason was found; there may be one all the same: what a column sounds isn't asked
+/// again, since `is_always_dead` tells of it. So many of the lowest voices as have been tried are
+/// only asked what they cost: whoever has asked them of an earlier column with the same cells
+/// spares the question. Whatever the number is, what is told holds. It takes no memory.
 pub fn pruned_within(
     ex: &Exercise,
     sheet: &Sheet,
@@ -199,7 +205,8 @@ pub fn pruned_within(
     requires full { length col.now.items ≡ ex.now.voices }
     ensures some { IfSome result (λ n. 1 ≤ n) }
     ensures few { IfSome result (λ n. n ≤ ex.now.voices) }
-    ensures pruned { IfSome result (λ n. PrunesWithin n ex.now sheet.now state.now limit col.now.items) }
+    ensures pruned { IfSome result (λ n. PrunesWithin n ex.now sheet.now state.now limit
+        col.now.items) }
 {
     if is_quiet(state.newest.len, col.as_slice()) {
         return None;

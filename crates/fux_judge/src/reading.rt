@@ -15,7 +15,8 @@ use rule_law::{RuleCrate, sets_of};
 fn is_broken(rule: u8, voices: VoiceSet, m: &Moment<'_>) -> bool
     requires rule { is_late rule ≡ false }
     requires readable { IsReadable m.now }
-    ensures { (p : List (List ACell)) → IsAfter p m.now → result ≡ is_broken_then rule voices.bits p m.now }
+    ensures { (p : List (List ACell)) → IsAfter p m.now → result ≡ is_broken_then rule voices.bits p
+        m.now }
 {
     AllRules::breaks_at_once(
         &m.state.past.parts,
@@ -33,7 +34,8 @@ fn is_broken(rule: u8, voices: VoiceSet, m: &Moment<'_>) -> bool
 pub(crate) fn is_strictly_broken(rule: u8, voices: VoiceSet, m: &Moment<'_>) -> bool
     requires rule { is_late rule ≡ false }
     requires readable { IsReadable m.now }
-    ensures { (p : List (List ACell)) → IsAfter p m.now → result ≡ is_strict_break_then rule voices.bits p m.now }
+    ensures { (p : List (List ACell)) → IsAfter p m.now → result ≡ is_strict_break_then rule
+        voices.bits p m.now }
 {
     if !is_broken(rule, voices, m) {
         return false;
@@ -41,11 +43,13 @@ pub(crate) fn is_strictly_broken(rule: u8, voices: VoiceSet, m: &Moment<'_>) -> 
     price_at(m.exercise, rule, voices, bar_of(m.state.newest.len)).is_strict()
 }
 
-/// The price of a relaxed break of a rule that is settled at once for a set of voices; nothing where there is none.
+/// The price of a relaxed break of a rule that is settled at once for a set of voices; nothing
+/// where there is none.
 fn price_of(rule: u8, voices: VoiceSet, m: &Moment<'_>) -> u64
     requires rule { is_late rule ≡ false }
     requires readable { IsReadable m.now }
-    ensures value { (p : List (List ACell)) → IsAfter p m.now → result ≡ price_then rule voices.bits p m.now }
+    ensures value { (p : List (List ACell)) → IsAfter p m.now → result ≡ price_then rule voices.bits
+        p m.now }
     ensures bound { result ≤ 10000 }
 {
     if !is_broken(rule, voices, m) {
@@ -58,7 +62,8 @@ fn price_of(rule: u8, voices: VoiceSet, m: &Moment<'_>) -> u64
 fn is_strictly_broken_for(sets: &[u8], rule: u8, m: &Moment<'_>) -> bool
     requires rule { is_late rule ≡ false }
     requires readable { IsReadable m.now }
-    ensures { (p : List (List ACell)) → IsAfter p m.now → result ≡ is_strictly_broken_then sets.now rule p m.now }
+    ensures { (p : List (List ACell)) → IsAfter p m.now → result ≡ is_strictly_broken_then sets.now
+        rule p m.now }
 {
     for bits in sets {
         if is_strictly_broken(rule, VoiceSet { bits: *bits }, m) {
@@ -73,7 +78,8 @@ fn prices_for(sets: &[u8], rule: u8, m: &Moment<'_>) -> u64
     requires rule { is_late rule ≡ false }
     requires readable { IsReadable m.now }
     requires few { length sets.now ≤ 6 }
-    ensures value { (p : List (List ACell)) → IsAfter p m.now → result ≡ prices_then sets.now rule p m.now }
+    ensures value { (p : List (List ACell)) → IsAfter p m.now → result ≡ prices_then sets.now rule p
+        m.now }
     ensures bound { result ≤ 60000 }
 {
     let mut sum = 0u64;
@@ -88,7 +94,8 @@ fn prices_for(sets: &[u8], rule: u8, m: &Moment<'_>) -> u64
 pub(crate) fn is_strictly_broken_now(rule: u8, m: &Moment<'_>) -> bool
     requires rule { is_late rule ≡ false }
     requires readable { IsReadable m.now }
-    ensures { (p : List (List ACell)) → IsAfter p m.now → result ≡ is_strictly_broken_then all_sets rule p m.now }
+    ensures { (p : List (List ACell)) → IsAfter p m.now → result ≡ is_strictly_broken_then all_sets
+        rule p m.now }
 {
     is_strictly_broken_for(sets_of(form_of(rule), m.exercise.voices), rule, m)
 }
@@ -97,7 +104,8 @@ pub(crate) fn is_strictly_broken_now(rule: u8, m: &Moment<'_>) -> bool
 pub(crate) fn prices_now(rule: u8, m: &Moment<'_>) -> u64
     requires rule { is_late rule ≡ false }
     requires readable { IsReadable m.now }
-    ensures value { (p : List (List ACell)) → IsAfter p m.now → result ≡ prices_then all_sets rule p m.now }
+    ensures value { (p : List (List ACell)) → IsAfter p m.now → result ≡ prices_then all_sets rule p
+        m.now }
     ensures bound { result ≤ 60000 }
 {
     if m.exercise.relax.as_slice().is_empty() {

@@ -14,8 +14,9 @@ use crate::past::Past;
 use fux_grid::{Cell, Column, Exercise};
 use rule_law::NewestColumns;
 
-/// What is kept of a prefix of any length, enough to judge each column that may follow: how many columns it has, the newest of them,
-/// and a part for each crate of rules that looks further back. It has a fixed size and takes no memory.
+/// What is kept of a prefix of any length, enough to judge each column that may follow: how many
+/// columns it has, the newest of them, and a part for each crate of rules that looks further back.
+/// It has a fixed size and takes no memory.
 #[derive(Clone, Copy, Debug, PartialEq, Eq)]
 pub struct State {
     /// How many columns the prefix has, and the newest of them.
@@ -44,7 +45,8 @@ impl State {
         requires valid { IsValid ex.now }
         requires room { self.old.newest.len < columns_in ex.now }
         requires full { length col.now.items ≡ ex.now.voices }
-        ensures state { Grown ex.now self.old col.now.items (λ longer. IsStateOf ex.now longer self.new) }
+        ensures state { Grown ex.now self.old col.now.items (λ longer. IsStateOf ex.now longer
+            self.new) }
         ensures length { self.new.newest.len ≡ self.old.newest.len + 1 }
     {
         let cells = col.as_slice();
@@ -58,7 +60,8 @@ impl State {
     /// How many columns the prefix has.
     #[inline]
     pub fn len(&self) -> usize
-        ensures { (ex : AnExercise) (p : List (List ACell)) → IsStateOf ex p self.now → result ≡ length p }
+        ensures { (ex : AnExercise) (p : List (List ACell)) → IsStateOf ex p self.now → result
+            ≡ length p }
     {
         self.newest.len
     }
@@ -66,7 +69,8 @@ impl State {
     /// Whether the prefix is empty.
     #[inline]
     pub fn is_empty(&self) -> bool
-        ensures { (ex : AnExercise) (p : List (List ACell)) → IsStateOf ex p self.now → result ≡ (length p == 0) }
+        ensures { (ex : AnExercise) (p : List (List ACell)) → IsStateOf ex p self.now → result
+            ≡ (length p == 0) }
     {
         self.newest.len == 0
     }
@@ -75,7 +79,8 @@ impl State {
     #[inline]
     pub fn before(&self, ex: &Exercise) -> &[Cell]
         requires { ex.now.voices ≤ 4 }
-        ensures { (p : List (List ACell)) → IsStateOf ex.now p self.now → result.now ≡ newest_column (reverse p) }
+        ensures { (p : List (List ACell)) → IsStateOf ex.now p self.now → result.now
+            ≡ newest_column (reverse p) }
     {
         if self.newest.len == 0 {
             return &[];

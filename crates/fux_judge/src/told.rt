@@ -45,7 +45,8 @@ fn told_jointly() -> &'static [u8]
     &JOINT_RULES
 }
 
-/// Those of the first rules that are left to ask: where each voice is smooth, none of melody is broken.
+/// Those of the first rules that are left to ask: where each voice is smooth, none of melody is
+/// broken.
 fn rules_to_ask(m: &Moment<'_>) -> &'static [u8]
     ensures numbers { IsTrue (list_all (λ rule. nat_lt rule 32 && not (is_late rule)) result.now) }
     ensures asked { (p : Columns) → IsAfter p m.now
@@ -77,8 +78,8 @@ fn first_broken(rules: &[u8], m: &Moment<'_>) -> Option<u8>
 fn keeps_shapes(m: &Moment<'_>) -> bool
     requires readable { IsReadable m.now }
     requires full { length m.now.column.now ≡ m.now.exercise.now.voices }
-    ensures { OnTrue result ((p : Columns) → IsAfter p m.now → GoesOn m.now.exercise.now p (m.now.column.now ∷ [])
-        → newly_broken m.now.exercise.now p m.now.column.now 3 ≡ false) }
+    ensures { OnTrue result ((p : Columns) → IsAfter p m.now → GoesOn m.now.exercise.now p
+        (m.now.column.now ∷ []) → newly_broken m.now.exercise.now p m.now.column.now 3 ≡ false) }
 {
     let i = m.state.newest.len;
     let part = Rhythm::noted(
@@ -99,8 +100,8 @@ fn keeps_shapes(m: &Moment<'_>) -> bool
     true
 }
 
-/// The least rule of which a column settles a strict break, where it is one of the first and soon told: most columns that break a rule
-/// break one of these. None where it isn't told.
+/// The least rule of which a column settles a strict break, where it is one of the first and soon
+/// told: most columns that break a rule break one of these. None where it isn't told.
 pub fn told_rule(ex: &Exercise, state: &State, col: &Column) -> Option<u8>
     requires valid { IsValid ex.now }
     requires room { state.now.newest.len < columns_in ex.now }
@@ -119,7 +120,8 @@ pub fn told_rule(ex: &Exercise, state: &State, col: &Column) -> Option<u8>
     None
 }
 
-/// Whether a column settles a strict break of a rule, where that is soon told. Where it answers no, it may settle one all the same.
+/// Whether a column settles a strict break of a rule, where that is soon told. Where it answers no,
+/// it may settle one all the same.
 pub fn is_told_broken(ex: &Exercise, state: &State, col: &Column, rule: u8) -> bool
     requires valid { IsValid ex.now }
     requires room { state.now.newest.len < columns_in ex.now }

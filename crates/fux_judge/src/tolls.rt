@@ -23,7 +23,8 @@ use rule_law::{RuleCrate, is_free, starts};
 fn cost(toll: u8, m: &Moment<'_>) -> u32
     requires soon { is_late_toll toll ≡ false }
     requires readable { IsReadable m.now }
-    ensures value { (p : List (List ACell)) → IsAfter p m.now → result ≡ cost_at toll m.now.exercise.now (with_column p m.now) (length p) }
+    ensures value { (p : List (List ACell)) → IsAfter p m.now → result
+        ≡ cost_at toll m.now.exercise.now (with_column p m.now) (length p) }
     ensures bound { result ≤ 6 }
 {
     AllRules::cost_at_once(
@@ -43,17 +44,20 @@ fn charge(toll: u8, sheet: &Sheet, m: &Moment<'_>) -> u64
     requires last { toll ≤ greatest_toll }
     requires soon { is_late_toll toll ≡ false }
     requires readable { IsReadable m.now }
-    ensures value { (p : List (List ACell)) → IsAfter p m.now → result ≡ toll_then sheet.now p m.now toll }
+    ensures value { (p : List (List ACell)) → IsAfter p m.now → result ≡ toll_then sheet.now p m.now
+        toll }
     ensures bound { result ≤ 393210 }
 {
     u64::from(cost(toll, m)) * u64::from(weight(sheet, toll))
 }
 
-/// What the tolls of motion and dissonance that are settled at once cost together: those that several voices make.
+/// What the tolls of motion and dissonance that are settled at once cost together: those that
+/// several voices make.
 #[tactic(auto, unfolding(crate::specs::Rules::toll_at))]
 pub(crate) fn charges_of_pairs(sheet: &Sheet, m: &Moment<'_>) -> u64
     requires { IsReadable m.now }
-    ensures value { (p : List (List ACell)) → IsAfter p m.now → result ≡ pairs_then sheet.now p m.now }
+    ensures value { (p : List (List ACell)) → IsAfter p m.now → result ≡ pairs_then sheet.now p
+        m.now }
     ensures bound { result ≤ 1179630 }
 {
     charge(1, sheet, m) + charge(2, sheet, m) + charge(11, sheet, m)
@@ -74,7 +78,8 @@ pub(crate) fn charge_of_move(sheet: &Sheet, previous: Option<Pitch>, now: Cell) 
 /// The weight of Q13, where it stands for a cell of a voice that comes after these notes.
 fn charge_of_leap(sheet: &Sheet, voices: &[VoiceNotes; 4], voice: usize, now: Cell) -> u64
     requires { voice < 4 }
-    ensures value { (behind : List (List ACell)) → AreNotesOf behind voices.now → result ≡ leap_charge sheet.now (line voice behind) now }
+    ensures value { (behind : List (List ACell)) → AreNotesOf behind voices.now → result
+        ≡ leap_charge sheet.now (line voice behind) now }
     ensures bound { result ≤ 65535 }
 {
     if leap_open_after(&voices[voice], now) {
@@ -84,7 +89,8 @@ fn charge_of_leap(sheet: &Sheet, voices: &[VoiceNotes; 4], voice: usize, now: Ce
     }
 }
 
-/// What a voice's move costs by the tolls of melody: Q7 to Q10 and Q13. The cantus pays nothing, and nor does a voice that starts no note.
+/// What a voice's move costs by the tolls of melody: Q7 to Q10 and Q13. The cantus pays nothing,
+/// and nor does a voice that starts no note.
 pub(crate) fn charge_of_voice(sheet: &Sheet, m: &Moment<'_>, voice: usize) -> u64
     requires { voice < 4 }
     ensures value { (p : List (List ACell)) → IsAfter p m.now
@@ -105,7 +111,8 @@ pub(crate) fn charge_of_voice(sheet: &Sheet, m: &Moment<'_>, voice: usize) -> u6
 /// What the tolls that are settled at once cost together.
 pub(crate) fn charges(sheet: &Sheet, m: &Moment<'_>) -> u64
     requires { IsReadable m.now }
-    ensures value { (p : List (List ACell)) → IsAfter p m.now → result ≡ sum_by (toll_then sheet.now p m.now) tolls_at_once }
+    ensures value { (p : List (List ACell)) → IsAfter p m.now → result
+        ≡ sum_by (toll_then sheet.now p m.now) tolls_at_once }
     ensures bound { result ≤ 7864200 }
 {
     charge_of_voice(sheet, m, 0)

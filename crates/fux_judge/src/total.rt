@@ -35,7 +35,8 @@ fn tolls_of(ex: &Exercise, sheet: &Sheet, score: &Score, i: usize) -> u64
     sum
 }
 
-/// The price of a relaxed break of a rule at a place for a set of voices; nothing where there is none.
+/// The price of a relaxed break of a rule at a place for a set of voices; nothing where there is
+/// none.
 fn price_of(rule: u8, ex: &Exercise, score: &Score, i: usize, voices: VoiceSet) -> u64
     requires valid { IsValid ex.now }
     requires complete { IsComplete ex.now score.now }
@@ -54,7 +55,8 @@ fn prices_of_rule(rule: u8, ex: &Exercise, score: &Score, i: usize) -> u64
     requires valid { IsValid ex.now }
     requires complete { IsComplete ex.now score.now }
     requires place { i < length score.now.columns }
-    ensures value { result ≡ sum_by (λ voices. penalties.price_read rule ex.now voices score.now.columns i) all_sets }
+    ensures value { result ≡ sum_by (λ voices. penalties.price_read rule ex.now voices
+        score.now.columns i) all_sets }
     ensures bound { result ≤ 60000 }
 {
     let mut sum = 0u64;
@@ -124,12 +126,14 @@ fn lines_of(ex: &Exercise, sheet: &Sheet, score: &Score) -> u64
     sum
 }
 
-/// The penalty of a score: all tolls by their weights, the prices of relaxed breaks, and the gauges of the free voices' lines by their
-/// weights. There is none where the score isn't complete. It takes no memory.
+/// The penalty of a score: all tolls by their weights, the prices of relaxed breaks, and the gauges
+/// of the free voices' lines by their weights. There is none where the score isn't complete. It
+/// takes no memory.
 pub fn penalty(ex: &Exercise, sheet: &Sheet, score: &Score) -> Option<u64>
     requires { IsValid ex.now }
     ensures known { IsSome result ↔ IsComplete ex.now score.now }
-    ensures value { IfSome result (λ penalty. penalty ≡ penalty_of ex.now sheet.now score.now.columns) }
+    ensures value { IfSome result (λ penalty. penalty ≡ penalty_of ex.now sheet.now
+        score.now.columns) }
 {
     let columns = 8 * ex.bars as usize;
     score.kept();

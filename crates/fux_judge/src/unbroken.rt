@@ -37,8 +37,8 @@ pub struct Price {
     pub least: u64,
 }
 
-/// What a column that settles no strict break costs; none where it settles one, and then no more is read than tells so. The state of
-/// the longer prefix is written into the place that is given.
+/// What a column that settles no strict break costs; none where it settles one, and then no more is
+/// read than tells so. The state of the longer prefix is written into the place that is given.
 pub fn step_unbroken(
     ex: &Exercise,
     sheet: &Sheet,
@@ -49,15 +49,19 @@ pub fn step_unbroken(
     requires valid { IsValid ex.now }
     requires room { state.now.newest.len < columns_in ex.now }
     requires full { length col.now.items ≡ ex.now.voices }
-    ensures state { IfSome result (λ _. Grown ex.now state.now col.now.items (λ longer. IsStateOf ex.now longer next.new)) }
+    ensures state { IfSome result (λ _. Grown ex.now state.now col.now.items
+        (λ longer. IsStateOf ex.now longer next.new)) }
 
-    // After an orderly prefix: no strict break is settled where there is a price, and one is where there is none; and what the column
-    // settles of tolls and prices.
-    ensures broken { GoingOn ex.now state.now col.now.items (λ p added. IfNone result (settles_break ex.now p added ≡ true)) }
-    ensures unbroken { GoingOn ex.now state.now col.now.items (λ p added. IfSome result (λ _. settles_break ex.now p added ≡ false)) }
+    // After an orderly prefix: no strict break is settled where there is a price, and one is where
+    // there is none; and what the column settles of tolls and prices.
+    ensures broken { GoingOn ex.now state.now col.now.items
+        (λ p added. IfNone result (settles_break ex.now p added ≡ true)) }
+    ensures unbroken { GoingOn ex.now state.now col.now.items
+        (λ p added. IfSome result (λ _. settles_break ex.now p added ≡ false)) }
     ensures settled { GoingOn ex.now state.now col.now.items (λ p added.
         IfSome result (λ it. it.paid ≡ newly_paid ex.now sheet.now p added)) }
-    ensures paid { GoingOn ex.now state.now col.now.items (λ p added. IfSome result (λ it. PaysMore ex.now sheet.now p added it.paid)) }
+    ensures paid { GoingOn ex.now state.now col.now.items
+        (λ p added. IfSome result (λ it. PaysMore ex.now sheet.now p added it.paid)) }
     ensures bound { IfSome result (λ it. it.paid ≤ 134217728) }
     ensures least { GrownPrefix ex.now state.now col.now.items (λ longer.
         IfSome result (λ it. it.least ≡ least_of ex.now sheet.now longer)) }
@@ -78,8 +82,9 @@ pub fn step_unbroken(
     Some(Price { paid, least })
 }
 
-/// What a column costs that is known to settle no strict break, as a search knows of one that it comes back to: no rule is asked whether
-/// it is broken strictly. The state of the longer prefix is written into the place that is given.
+/// What a column costs that is known to settle no strict break, as a search knows of one that it
+/// comes back to: no rule is asked whether it is broken strictly. The state of the longer prefix is
+/// written into the place that is given.
 pub fn step_again(
     ex: &Exercise,
     sheet: &Sheet,
@@ -90,13 +95,18 @@ pub fn step_again(
     requires valid { IsValid ex.now }
     requires room { state.now.newest.len < columns_in ex.now }
     requires full { length col.now.items ≡ ex.now.voices }
-    ensures state { Grown ex.now state.now col.now.items (λ longer. IsStateOf ex.now longer next.new) }
+    ensures state { Grown ex.now state.now col.now.items (λ longer. IsStateOf ex.now longer
+        next.new) }
 
-    // After an orderly prefix, what the column settles of tolls and prices, whether it settles a strict break or not.
-    ensures settled { GoingOn ex.now state.now col.now.items (λ p added. result.paid ≡ newly_paid ex.now sheet.now p added) }
-    ensures paid { GoingOn ex.now state.now col.now.items (λ p added. PaysMore ex.now sheet.now p added result.paid) }
+    // After an orderly prefix, what the column settles of tolls and prices, whether it settles a
+    // strict break or not.
+    ensures settled { GoingOn ex.now state.now col.now.items (λ p added. result.paid
+        ≡ newly_paid ex.now sheet.now p added) }
+    ensures paid { GoingOn ex.now state.now col.now.items (λ p added. PaysMore ex.now sheet.now p
+        added result.paid) }
     ensures bound { result.paid ≤ 134217728 }
-    ensures least { GrownPrefix ex.now state.now col.now.items (λ longer. result.least ≡ least_of ex.now sheet.now longer) }
+    ensures least { GrownPrefix ex.now state.now col.now.items (λ longer. result.least
+        ≡ least_of ex.now sheet.now longer) }
     ensures least_bound { result.least ≤ 334490640 }
 {
     *next = *state;

@@ -60,7 +60,8 @@ pub(crate) fn any_of(rules: &[u8], set: RuleSet) -> bool
 fn broken_of(rules: &[u8], m: &Moment<'_>) -> RuleSet
     requires numbers { IsTrue (list_all (λ rule. nat_lt rule 32 && not (is_late rule)) rules.now) }
     requires readable { IsReadable m.now }
-    ensures { (p : List (List ACell)) → IsAfter p m.now → (r : ℕ) → has_rule result.bits r ≡ breaks_one_of rules.now p m.now r }
+    ensures { (p : List (List ACell)) → IsAfter p m.now → (r : ℕ) → has_rule result.bits r
+        ≡ breaks_one_of rules.now p m.now r }
 {
     let mut set = RuleSet::EMPTY;
     for rule in rules {
@@ -75,7 +76,8 @@ fn prices_of(rules: &[u8], m: &Moment<'_>) -> u64
     requires numbers { IsTrue (list_all (λ rule. nat_lt rule 32 && not (is_late rule)) rules.now) }
     requires readable { IsReadable m.now }
     requires few { length rules.now ≤ 32 }
-    ensures value { (p : List (List ACell)) → IsAfter p m.now → result ≡ sum_by (λ rule. prices_then all_sets rule p m.now) rules.now }
+    ensures value { (p : List (List ACell)) → IsAfter p m.now → result
+        ≡ sum_by (λ rule. prices_then all_sets rule p m.now) rules.now }
     ensures bound { result ≤ 1920000 }
 {
     let mut sum = 0u64;
@@ -89,7 +91,8 @@ fn prices_of(rules: &[u8], m: &Moment<'_>) -> u64
 /// The moment at which a column comes after a state's prefix.
 pub(crate) fn moment_of<'a>(ex: &'a Exercise<'a>, state: &'a State, col: &'a Column) -> Moment<'a>
     requires { ex.now.voices ≤ 4 }
-    ensures after { (p : List (List ACell)) → IsStateOf ex.entry.now p state.entry.now → IsAfter p result }
+    ensures after { (p : List (List ACell)) → IsStateOf ex.entry.now p state.entry.now
+        → IsAfter p result }
     ensures exercise { result.exercise.now ≡ ex.entry.now }
     ensures column { result.column.now ≡ col.entry.now.items }
     ensures place { result.state.now.newest.len ≡ state.entry.now.newest.len }
@@ -103,13 +106,14 @@ pub(crate) fn moment_of<'a>(ex: &'a Exercise<'a>, state: &'a State, col: &'a Col
     }
 }
 
-/// The rules settled at once that the column breaks strictly, and what it costs of them and of such tolls. Where nothing begins,
-/// nothing is read.
+/// The rules settled at once that the column breaks strictly, and what it costs of them and of such
+/// tolls. Where nothing begins, nothing is read.
 pub(crate) fn readings(sheet: &Sheet, m: &Moment<'_>) -> (RuleSet, u64)
     requires { IsReadable m.now }
     ensures broken { (p : List (List ACell)) → IsAfter p m.now → (r : ℕ)
         → has_rule result.0.bits r ≡ breaks_one_of rules_at_once p m.now r }
-    ensures paid { (p : List (List ACell)) → IsAfter p m.now → result.1 ≡ paid_at_once sheet.now p m.now }
+    ensures paid { (p : List (List ACell)) → IsAfter p m.now → result.1 ≡ paid_at_once sheet.now p
+        m.now }
     ensures bound { result.1 ≤ 9784200 }
 {
     if is_quiet(m.state.newest.len, m.column) {
@@ -119,10 +123,12 @@ pub(crate) fn readings(sheet: &Sheet, m: &Moment<'_>) -> (RuleSet, u64)
     (broken_of(rules_left(m), m), paid)
 }
 
-/// What the column costs of the rules settled at once and of such tolls. Where nothing begins, nothing is read.
+/// What the column costs of the rules settled at once and of such tolls. Where nothing begins,
+/// nothing is read.
 pub(crate) fn paid_now(sheet: &Sheet, m: &Moment<'_>) -> u64
     requires { IsReadable m.now }
-    ensures paid { (p : List (List ACell)) → IsAfter p m.now → result ≡ paid_at_once sheet.now p m.now }
+    ensures paid { (p : List (List ACell)) → IsAfter p m.now → result ≡ paid_at_once sheet.now p
+        m.now }
     ensures bound { result ≤ 9784200 }
 {
     if is_quiet(m.state.newest.len, m.column) {
@@ -131,21 +137,26 @@ pub(crate) fn paid_now(sheet: &Sheet, m: &Moment<'_>) -> u64
     charges(sheet, m) + prices_of(all_at_once(), m)
 }
 
-/// Judges a column that comes after a prefix: which rules it breaks strictly, what it costs, and the state of the longer prefix.
-/// It takes no memory.
+/// Judges a column that comes after a prefix: which rules it breaks strictly, what it costs, and
+/// the state of the longer prefix. It takes no memory.
 pub fn step(ex: &Exercise, sheet: &Sheet, state: &State, col: &Column) -> Verdict
     requires valid { IsValid ex.now }
     requires room { state.now.newest.len < columns_in ex.now }
     requires full { length col.now.items ≡ ex.now.voices }
-    ensures state { Grown ex.now state.now col.now.items (λ longer. IsStateOf ex.now longer result.state) }
+    ensures state { Grown ex.now state.now col.now.items (λ longer. IsStateOf ex.now longer
+        result.state) }
 
-    // After an orderly prefix, the rules of which this column, and none before it, settles a strict break, and what it settles
-    // of tolls and prices.
-    ensures broken { GoingOn ex.now state.now col.now.items (λ p next. HasBroken ex.now p next result.broken.bits) }
-    ensures settled { GoingOn ex.now state.now col.now.items (λ p next. result.paid ≡ newly_paid ex.now sheet.now p next) }
-    ensures paid { GoingOn ex.now state.now col.now.items (λ p next. PaysMore ex.now sheet.now p next result.paid) }
+    // After an orderly prefix, the rules of which this column, and none before it, settles a strict
+    // break, and what it settles of tolls and prices.
+    ensures broken { GoingOn ex.now state.now col.now.items (λ p next. HasBroken ex.now p next
+        result.broken.bits) }
+    ensures settled { GoingOn ex.now state.now col.now.items (λ p next. result.paid
+        ≡ newly_paid ex.now sheet.now p next) }
+    ensures paid { GoingOn ex.now state.now col.now.items (λ p next. PaysMore ex.now sheet.now p
+        next result.paid) }
     ensures bound { result.paid ≤ 134217728 }
-    ensures least { GrownPrefix ex.now state.now col.now.items (λ longer. result.least ≡ least_of ex.now sheet.now longer) }
+    ensures least { GrownPrefix ex.now state.now col.now.items (λ longer. result.least
+        ≡ least_of ex.now sheet.now longer) }
     ensures least_bound { result.least ≤ 334490640 }
 {
     let moment = moment_of(ex, state, col);

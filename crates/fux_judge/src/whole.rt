@@ -8,7 +8,8 @@ use crate::all_rules::AllRules;
 use fux_grid::{Exercise, Score, VoiceSet};
 use rule_law::RuleCrate;
 
-/// Whether a rule is broken at column `i` for a set of voices. A number that no crate has is never broken.
+/// Whether a rule is broken at column `i` for a set of voices. A number that no crate has is never
+/// broken.
 #[tactic(auto, unfolding(crate::specs::Rules::rule_at))]
 pub fn is_broken_in(rule: u8, ex: &Exercise, score: &Score, i: usize, voices: VoiceSet) -> bool
     requires valid { IsValid ex.now }

@@ -3,7 +3,8 @@ use Rattle.std.specs.Prelude.{ℕ, ◌+◌, ◌-◌, ◌*◌, ◌/◌, ◌%◌, 
 use Rattle.fux_pitch.specs.Pitch.{pitch_at}
 use Rattle.fux_pitch.specs.declared.pitch.Pitch.{Pitch}
 
--- the letters and the alterations of the twelve keys of an octave: C, C#, D, Eb, E, F, F#, G, G#, A, Bb, B
+-- the letters and the alterations of the twelve keys of an octave: C, C#, D, Eb, E, F, F#, G, G#,
+-- A, Bb, B
 abbrev pub octave_spellings : List (ℕ × ℤ)
 octave_spellings =
     (0, pos 0) ∷ (0, pos 1) ∷ (1, pos 0) ∷ (2, negsuc 0) ∷ (2, pos 0) ∷ (3, pos 0)

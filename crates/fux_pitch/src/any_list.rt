@@ -11,7 +11,8 @@ enum Items<'a, T> {
     Lent(&'a [T]),
 }
 
-/// A list of items that are owned or lent. Contracts see it as the list itself, and not where the items stand.
+/// A list of items that are owned or lent. Contracts see it as the list itself, and not where the
+/// items stand.
 #[derive(Drop)]
 pub struct AnyList<'a, T> {
     items: Items<'a, T>,

@@ -1,5 +1,5 @@
-//! Intervals, their reduced sizes and the three classes of Fux's Gradus ad Parnassum (1725): perfect
-//! consonances, imperfect consonances and dissonances.
+//! Intervals, their reduced sizes and the three classes of Fux's Gradus ad Parnassum (1725):
+//! perfect consonances, imperfect consonances and dissonances.
 
 ghost use Rattle.std.specs.Prelude.{◌≡◌, pos, negsuc, ◌≤ℤ◌};
 ghost use Rattle.fux_pitch.specs.Size.{interval_between, IsShort, upward, within_octave, reduced, has_size, is_perfect_size, is_imperfect_size, is_consonant_size};
@@ -7,8 +7,8 @@ ghost use Rattle.fux_pitch.specs.Size.{interval_between, IsShort, upward, within
 use crate::key::semitone;
 use crate::pitch::Pitch;
 
-/// The way from one pitch to another. A major third up has 2 degrees and 4 semitones, a minor second
-/// down -1 and -1.
+/// The way from one pitch to another. A major third up has 2 degrees and 4 semitones, a minor
+/// second down -1 and -1.
 #[derive(Clone, Copy, Debug, PartialEq, Eq)]
 pub struct Interval {
     /// Steps of the staff, positive upwards.
@@ -46,7 +46,8 @@ fn turned_up(i: Interval) -> Interval
     i
 }
 
-/// The reduced size: the interval turned up, with its octaves taken off. A tenth is reduced to a third.
+/// The reduced size: the interval turned up, with its octaves taken off. A tenth is reduced to a
+/// third.
 pub fn reduce(i: Interval) -> Interval
     requires { IsShort i }
     ensures { result ≡ reduced i }
@@ -94,8 +95,8 @@ pub fn is_imperfect(i: Interval) -> bool
     is_size(size, 2, 3) || is_size(size, 2, 4) || is_size(size, 5, 8) || is_size(size, 5, 9)
 }
 
-/// A consonance. Between two voices of which none is the lowest, the perfect and the augmented fourth
-/// and the diminished fifth are consonant too; against the lowest voice they are dissonant.
+/// A consonance. Between two voices of which none is the lowest, the perfect and the augmented
+/// fourth and the diminished fifth are consonant too; against the lowest voice they are dissonant.
 pub fn is_consonant(i: Interval, lowest: bool) -> bool
     requires { IsShort i }
     ensures { result ≡ is_consonant_size i lowest }

@@ -30,8 +30,8 @@ pub fn final_letter(mode: Mode) -> u8
     }
 }
 
-/// The letter and the alteration of the mode's leading note, one degree below the final. It is raised
-/// in the dorian, mixolydian and aeolian mode.
+/// The letter and the alteration of the mode's leading note, one degree below the final. It is
+/// raised in the dorian, mixolydian and aeolian mode.
 pub fn leading(mode: Mode) -> (u8, i8)
     ensures { result ≡ leading_of mode }
 {

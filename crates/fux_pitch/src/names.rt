@@ -55,7 +55,8 @@ fn sign(alter: i8) -> &'static str
     }
 }
 
-/// The name of a pitch: a letter from A to G, then `#`, `b` or nothing, then the digit of the letter's octave.
+/// The name of a pitch: a letter from A to G, then `#`, `b` or nothing, then the digit of the
+/// letter's octave.
 #[tactic(auto, unfolding(crate::specs::Names::name_of))]
 pub fn name(p: Pitch) -> ArrayString<3>
     ensures { result.bytes ≡ name_of p }
@@ -80,7 +81,8 @@ fn written(letter: u8, alter: i8, digit: u8) -> Option<Pitch>
     requires flat { negsuc 0 ≤ℤ alter }
     requires sharp { alter ≤ℤ pos 1 }
     ensures named { IfSome result (λ p. name_of p ≡ letter ∷ accidental alter ++ digit ∷ []) }
-    ensures every { (p : Pitch) → name_of p ≡ letter ∷ accidental alter ++ digit ∷ [] → result ≡ Some p }
+    ensures every { (p : Pitch) → name_of p ≡ letter ∷ accidental alter ++ digit ∷ [] → result
+        ≡ Some p }
 {
     if digit < b'1' || digit > b'7' {
         return None;

@@ -14,8 +14,8 @@ pub struct Pitch {
     pub ghost is_pitch: { IsPitch degree alter },
 }
 
-/// The key of the natural on this degree: seven letters share the twelve keys of an octave as evenly as can be, so that one division
-/// tells where each of them is.
+/// The key of the natural on this degree: seven letters share the twelve keys of an octave as
+/// evenly as can be, so that one division tells where each of them is.
 #[inline]
 pub(crate) fn natural(degree: u8) -> i16
     ensures value { result ≡ pos (natural_key degree) }
@@ -28,7 +28,8 @@ pub(crate) fn natural(degree: u8) -> i16
 impl Pitch {
     ghost use Rattle.fux_pitch.specs.Pitch.{degree_of, alter_of, pitch_at};
 
-    /// The pitch of a degree and an alteration, where there is one: 1 raises by a semitone, -1 lowers.
+    /// The pitch of a degree and an alteration, where there is one: 1 raises by a semitone, -1
+    /// lowers.
     pub fn new(degree: u8, alter: i8) -> Option<Pitch>
         ensures known { IsSome result ↔ IsPitch degree alter }
         ensures degree { IfSome result (λ p. degree_of p ≡ degree) }
@@ -45,8 +46,8 @@ impl Pitch {
         Some(Pitch { degree, alter })
     }
 
-    /// The letters from C0 up to this pitch, from 7 to 49. Divided by 7 it gives the octave, and as remainder the letter,
-    /// where 0 is C and 6 is B.
+    /// The letters from C0 up to this pitch, from 7 to 49. Divided by 7 it gives the octave, and as
+    /// remainder the letter, where 0 is C and 6 is B.
     pub fn degree(self) -> u8
         ensures { result ≡ degree_of self }
     {

@@ -6,7 +6,8 @@ ghost use Rattle.fux_pitch.specs.Spelling.{class_spelling, spelled};
 
 use crate::pitch::Pitch;
 
-/// The letters and the alterations of the twelve keys of an octave: C, C#, D, Eb, E, F, F#, G, G#, A, Bb, B.
+/// The letters and the alterations of the twelve keys of an octave: C, C#, D, Eb, E, F, F#, G, G#,
+/// A, Bb, B.
 const OCTAVE: [(u8, i8); 12] = [
     (0, 0),
     (0, 1),

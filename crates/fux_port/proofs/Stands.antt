@@ -1,6 +1,6 @@
--- Bytes that are put together before they are written: where a writer stands (`stands_put`), that nothing is lost at its end
--- (`stands_end`), what was written where it stops (`stands_stop`), and that a sink which promised all bytes promises those that
--- wait and those to come (`room_put`).
+-- Bytes that are put together before they are written: where a writer stands (`stands_put`), that
+-- nothing is lost at its end (`stands_end`), what was written where it stops (`stands_stop`), and
+-- that a sink which promised all bytes promises those that wait and those to come (`room_put`).
 use Rattle.std.proofs.Common.{◌≡◌, ℕ, ◌+◌, List, [], ◌++◌, Option, length, ap, sym, ◌∙◌, subst, arith, append_assoc, length-append}
 use Rattle.std.specs.Prelude.{Err, IsOk, Ok, OnErr, Result}
 use Rattle.std.proofs.lemmas.Bool.{true≢false}

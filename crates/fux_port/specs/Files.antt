@@ -1,4 +1,5 @@
--- What is told of a shelf's files: nothing, or for each name the bytes of its file or that there is none.
+-- What is told of a shelf's files: nothing, or for each name the bytes of its file or that there is
+-- none.
 use Rattle.std.specs.Prelude.{◌≡◌, ℕ, ◌≤◌, ◌⊎◌, List, Option, Some, None, drop, length}
 use Rattle.std.specs.Io.{StartsWith}
 

@@ -4,8 +4,8 @@ use Rattle.std.specs.Map.{lookup}
 use Rattle.std.specs.Str.{bytes_eq}
 use Rattle.fux_port.specs.Counts.{count_after, next_count, is_next_in}
 
--- the files by name, the numbers of the reads that fail, the most bytes that a read gives, if there is such a limit,
--- how many reads and faults there were, and how many bytes were given
+-- the files by name, the numbers of the reads that fail, the most bytes that a read gives, if there
+-- is such a limit, how many reads and faults there were, and how many bytes were given
 pub record ShelfState : Type 0 where
   pub files : List (List ℕ × List ℕ)
   pub fail_at : List ℕ

@@ -2,8 +2,8 @@
 use Rattle.std.specs.Prelude.{◌≡◌, ℕ, ◌-◌, ◌<◌, ◌⊎◌, List, ◌++◌, IsTrue, length, min}
 use Rattle.fux_port.specs.Counts.{next_count, is_next_in}
 
--- the bytes taken, how many it takes at most, in all and in one write, the numbers of the writes that fail,
--- and how many writes and faults there were
+-- the bytes taken, how many it takes at most, in all and in one write, the numbers of the writes
+-- that fail, and how many writes and faults there were
 pub record SinkState : Type 0 where
   pub taken : List ℕ
   pub room : ℕ

@@ -14,7 +14,8 @@ Keeps old new = (name : List ℕ) (offset : ℕ) → old name offset → new nam
 abbrev pub KeepsRoom : (ℕ → Type 0) → (ℕ → Type 0) → ℕ → Type 0
 KeepsRoom old new taken = (more : ℕ) → old (taken + more) → new more
 
--- the same where some bytes wait: room for these and a line is used up, but for those that wait then
+-- the same where some bytes wait: room for these and a line is used up, but for those that wait
+-- then
 abbrev pub KeepsBehind : (ℕ → Type 0) → (ℕ → Type 0) → ℕ → ℕ → Type 0
 KeepsBehind old new before after = (more : ℕ) → old (before + more) → new (after + more)
 

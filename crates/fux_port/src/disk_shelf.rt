@@ -8,9 +8,9 @@ use std::io;
 use std::io::{Read, Seek, SeekFrom};
 use std::marker::Model;
 
-/// The files of the disk, by their paths. Nothing is told of what they hold. The file of the last read
-/// stays open: reads that go on from one another are of one file, whatever is done to its name meanwhile,
-/// and need no seeking, so that a pipe can be read. A folder fails.
+/// The files of the disk, by their paths. Nothing is told of what they hold. The file of the last
+/// read stays open: reads that go on from one another are of one file, whatever is done to its name
+/// meanwhile, and need no seeking, so that a pipe can be read. A folder fails.
 #[derive(Drop)]
 pub struct DiskShelf<'a> {
     host: &'a HostRuntime,

@@ -10,12 +10,15 @@ use crate::whole::write_all;
 use crate::{Failed, Sink};
 use arrayvec::ArrayString;
 
-/// Puts a line behind the bytes that wait to be written. Where it may not fit, they are written first.
+/// Puts a line behind the bytes that wait to be written. Where it may not fit, they are written
+/// first.
 pub fn put<K: Sink>(sink: &mut K, waiting: &mut ArrayString<4096>, line: &str) -> Result<(), Failed>
     requires { length line.now ≤ 4096 }
-    ensures ok { OnOk result (Puts (K.written sink.old) (K.written sink.new) waiting.old.bytes waiting.new.bytes line.now) }
+    ensures ok { OnOk result (Puts (K.written sink.old) (K.written sink.new) waiting.old.bytes
+        waiting.new.bytes line.now) }
     ensures cause { OnErr result (Rose (K.faults sink.old) (K.faults sink.new)) }
-    ensures err { OnErr result (StopsShort (K.written sink.old) (K.written sink.new) waiting.old.bytes) }
+    ensures err { OnErr result (StopsShort (K.written sink.old) (K.written sink.new)
+        waiting.old.bytes) }
 
     // No fault is blamed on a sink that promises to take the bytes that wait, or more.
     ensures taken { (more : ℕ) → K.serves sink.old (length waiting.old.bytes + more) → IsOk result }

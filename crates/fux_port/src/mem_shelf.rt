@@ -125,8 +125,8 @@ impl Shelf for MemShelf {
         ensures starts { IfOk result (λ count.
             StandAt (Some (file_at self.old.files)) name.now offset (take count buf.new)) }
         ensures rest { IfOk result (λ count. drop count buf.new ≡ drop count buf.old) }
-        ensures end { IfOk result (λ count.
-            count ≡ 0 → 0 < length buf.old → EndsBy (Some (file_at self.old.files)) name.now offset) }
+        ensures end { IfOk result (λ count. count ≡ 0 → 0 < length buf.old
+            → EndsBy (Some (file_at self.old.files)) name.now offset) }
         ensures count { IfOk result (λ count. IfFile self.old name.now (λ file.
             count ≡ given_from offset file self.old.piece (length buf.old))) }
         ensures placed { IfOk result (λ count. IfFile self.old name.now (λ file.
@@ -158,8 +158,8 @@ fn find_file<'a>(files: &'a BTreeMap<String, Bytes<u8>>, name: &str) -> Option<&
     Some(file.as_slice())
 }
 
-/// Copies as much of the file from this offset on as the buffer has room for, and as one piece may have.
-/// It answers how many bytes.
+/// Copies as much of the file from this offset on as the buffer has room for, and as one piece may
+/// have. It answers how many bytes.
 fn copy_from(file: &[u8], offset: u64, piece: Option<usize>, buf: &mut [u8]) -> usize
     requires { IfSome piece (λ piece. 0 < piece) }
     ensures count { result ≡ given_from offset file.now piece (length buf.old) }

@@ -38,8 +38,8 @@ impl Model for MemSink {
 }
 
 impl MemSink {
-    /// A sink for `room` bytes, at most `piece` in one write, whose writes of these numbers fail. They are
-    /// counted from 1.
+    /// A sink for `room` bytes, at most `piece` in one write, whose writes of these numbers fail.
+    /// They are counted from 1.
     pub fn new(alloc: Global, room: usize, piece: usize, fail_at: &[u64]) -> Result<MemSink, Memory>
         requires { 1 ≤ piece }
         ensures { IfOk result (λ s. s ≡ record {

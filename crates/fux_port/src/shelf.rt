@@ -9,8 +9,8 @@ use crate::Failed;
 
 /// Named files that are read in pieces.
 pub trait Shelf {
-    /// What the shelf tells of its files: nothing, or for each name the bytes of its file or that there is
-    /// none.
+    /// What the shelf tells of its files: nothing, or for each name the bytes of its file or that
+    /// there is none.
     ghost files: { Self → Option (List ℕ → Option (List ℕ)) };
 
     /// How many reads failed by a fault of the shelf. At its last value the count stands still.
@@ -19,10 +19,12 @@ pub trait Shelf {
     /// How many bytes its reads gave. At its last value the count stands still.
     ghost given: { Self → ℕ };
 
-    /// What it promises: a read from this offset of the file of this name, into a buffer with room, doesn't fail.
+    /// What it promises: a read from this offset of the file of this name, into a buffer with room,
+    /// doesn't fail.
     ghost serves: { Self → List ℕ → ℕ → Type 0 };
 
-    /// Reads bytes of the file from this offset on into the front of the buffer, and answers how many.
+    /// Reads bytes of the file from this offset on into the front of the buffer, and answers how
+    /// many.
     fn read_at(&mut self, name: &str, offset: u64, buf: &mut [u8]) -> Result<usize, Failed>
         ensures fits { IfOk result (λ count. count ≤ length buf.old) }
         ensures placed { IfOk result (λ count.

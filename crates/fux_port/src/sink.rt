@@ -15,7 +15,8 @@ pub trait Sink {
     /// How many writes failed. At its last value the count stands still.
     ghost faults: { Self → ℕ };
 
-    /// What it promises: it takes so many bytes more, and no write of a piece of them that isn't empty fails.
+    /// What it promises: it takes so many bytes more, and no write of a piece of them that isn't
+    /// empty fails.
     ghost serves: { Self → ℕ → Type 0 };
 
     /// Takes bytes of the front of the piece, and answers how many.
@@ -31,7 +32,8 @@ pub trait Sink {
         // It keeps its promises.
         ensures served { (room : ℕ) → serves self.old room → length piece.now ≤ room
             → 0 < length piece.now → IsOk result }
-        ensures serving { IfOk result (λ count. KeepsRoom (serves self.old) (serves self.new) count) }
+        ensures serving { IfOk result (λ count. KeepsRoom (serves self.old) (serves self.new)
+            count) }
 
         ensures faults { faults self.old ≤ faults self.new }
         ensures faults_fit { faults self.new < 2 ^ 64 };

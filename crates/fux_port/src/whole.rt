@@ -33,7 +33,8 @@ pub fn read_whole<F: Shelf>(
     ensures little { F.given shelf.new ≤ F.given shelf.old + (limit + 1) }
 
     // No fault is blamed on a shelf that promises each read up to the limit.
-    ensures served { ServesWhole (F.serves shelf.old) name.now limit → result ≢ Err WholeFault.Failed }
+    ensures served { ServesWhole (F.serves shelf.old) name.now limit → result
+        ≢ Err WholeFault.Failed }
     ensures serving { Keeps (F.serves shelf.old) (F.serves shelf.new) }
 
     ensures files { F.files shelf.new ≡ F.files shelf.old }
@@ -65,7 +66,8 @@ pub fn write_all<K: Sink>(sink: &mut K, bytes: &[u8]) -> Result<(), Failed>
     // No fault is blamed on a sink that promises to take them all, nor on one that promises more.
     ensures served { K.serves sink.old (length bytes.now) → IsOk result }
     ensures beyond { (more : ℕ) → K.serves sink.old (length bytes.now + more) → IsOk result }
-    ensures serving { OnOk result (KeepsRoom (K.serves sink.old) (K.serves sink.new) (length bytes.now)) }
+    ensures serving { OnOk result (KeepsRoom (K.serves sink.old) (K.serves sink.new)
+        (length bytes.now)) }
 
     ensures faults { K.faults sink.old ≤ K.faults sink.new }
 {

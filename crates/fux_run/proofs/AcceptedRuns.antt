@@ -1,4 +1,5 @@
--- A run of `check` accepts what a run of `certify` wrote (`accepted_run`), and so it is with a cantus (`accepted_cantus_run`).
+-- A run of `check` accepts what a run of `certify` wrote (`accepted_run`), and so it is with a
+-- cantus (`accepted_cantus_run`).
 use Rattle.std.proofs.Common.{◌≡◌, ◌≢◌, ℕ, List, [], ◌∷◌, Ok, Err, inl, inr, ap, subst, ◌∙◌}
 use Rattle.cert_text.specs.declared.answers.Form.{Form}
 use Rattle.command_words.specs.declared.command.Wanted.{Wanted}
@@ -9,7 +10,7 @@ use Rattle.works.specs.CantusCertified.{MakesCantusCertificate}
 use Rattle.works.specs.CantusChecked.{ChecksCantusBy}
 use Rattle.works.specs.TaskFiles.{as_list}
 use Rattle.works.specs.Texts.{Work}
-use Rattle.works.specs.Works.{AllHave, CertifiesText, ChecksText, Files}
+use Rattle.works.specs.Works.{CertifiesText, ChecksText, Files}
 use Rattle.works.proofs.AcceptedLemmas.{certified_cantus_is_accepted, certified_is_accepted}
 use Rattle.works.proofs.WorkLemmas.{only_bytes}
 use Rattle.fux_run.specs.Laws.{CertifiedCantusRunIsAccepted, CertifiedRunIsAccepted, HasStatus, IsFound, IsWhole}

@@ -6,8 +6,7 @@ use Rattle.works.specs.declared.complaint.Complaint.{Complaint}
 use Rattle.works.specs.declared.complaint.Complaint.TheVariants.{Usage, Refused, Unreadable, Unwritable, OutOfMemory}
 use Rattle.works.specs.declared.work.Output.{Output}
 use Rattle.works.specs.Endings.{Ended, IsCut, IsMade, IsWritten}
-use Rattle.works.specs.Texts.{Work}
-use Rattle.works.specs.Works.{Files, Works}
+use Rattle.works.specs.Works.{Files}
 use Rattle.works.proofs.WorkLemmas.{works_so}
 
 module _ (task : Task) (files : Files) (rose : Type 0) (cut : ℕ → Type 0) (old new : Option (List ℕ)) where

@@ -24,8 +24,8 @@ HasStatus code work = code ≡ code_of (work_status work)
 abbrev pub IsFound : ℕ → Type 0
 IsFound code = (code ≡ code_of Favorable) ⊎ (code ≡ code_of Unfavorable)
 
--- where a run of `certify` wrote a certificate, a run of `check` on the same exercise and sheet, with
--- these bytes in the certificate's file, ends with 0, if it can write its line
+-- where a run of `certify` wrote a certificate, a run of `check` on the same exercise and sheet,
+-- with these bytes in the certificate's file, ends with 0, if it can write its line
 abbrev pub CertifiedRunIsAccepted : Type 0
 CertifiedRunIsAccepted =
     (name certificate : List ℕ) (sheet : Option (List ℕ)) (budget : ℕ) (form : Form) (files later : Files)

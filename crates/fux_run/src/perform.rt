@@ -20,8 +20,8 @@ pub fn perform<'a, F: Shelf, K: Sink, R: Threads + Sync>(
     out: &mut K,
 ) -> Result<Verdict, Complaint<'a>>
     requires { HasHead command }
-    ensures ended { EndsOn F.files F.faults K.written K.faults K.serves (Ended (task_of command.entry))
-        shelf.old shelf.new out.old out.new result }
+    ensures ended { EndsOn F.files F.faults K.written K.faults K.serves
+        (Ended (task_of command.entry)) shelf.old shelf.new out.old out.new result }
     ensures served { ServesTask (F.serves shelf.old) (F.files shelf.old) (task_of command.entry)
         → IfErr result BlamesNoFile }
     ensures files { F.files shelf.new ≡ F.files shelf.old }
@@ -51,8 +51,8 @@ fn perform_making<'a, F: Shelf, K: Sink, R: Threads + Sync>(
     out: &mut K,
 ) -> Result<Verdict, Complaint<'a>>
     requires { HasMidiHead making }
-    ensures ended { EndsOn F.files F.faults K.written K.faults K.serves (Ended (making_task making.entry))
-        shelf.old shelf.new out.old out.new result }
+    ensures ended { EndsOn F.files F.faults K.written K.faults K.serves
+        (Ended (making_task making.entry)) shelf.old shelf.new out.old out.new result }
     ensures served { ServesTask (F.serves shelf.old) (F.files shelf.old) (making_task making.entry)
         → IfErr result BlamesNoFile }
     ensures files { F.files shelf.new ≡ F.files shelf.old }

@@ -12,7 +12,8 @@ use works::Complaint;
 /// failed write changes no status.
 pub fn report<E: Sink>(complaint: &Complaint<'_>, err: &mut E) -> Status
     ensures status { result ≡ complaint_status complaint.now }
-    ensures line { Gets E.written E.faults E.serves err.old err.new (fux_line (complaint_text complaint.now)) }
+    ensures line { Gets E.written E.faults E.serves err.old err.new
+        (fux_line (complaint_text complaint.now)) }
 {
     let (before, detail) = pieces(complaint);
     let _ = write_pieces(err, before, detail);
@@ -47,7 +48,8 @@ fn pieces<'c>(complaint: &'c Complaint<'_>) -> (&'static str, &'c str)
 
 /// Writes two texts as one line of the program.
 fn write_pieces<E: Sink>(err: &mut E, before: &str, detail: &str) -> Result<(), Failed>
-    ensures { Gets E.written E.faults E.serves err.old err.new (fux_line (before.now ++ detail.now)) }
+    ensures { Gets E.written E.faults E.serves err.old err.new
+        (fux_line (before.now ++ detail.now)) }
 {
     write_all(err, b"fux: ")?;
     write_all(err, before.as_bytes())?;

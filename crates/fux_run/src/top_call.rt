@@ -51,9 +51,8 @@ pub fn run<F: Shelf, K: Sink, E: Sink, R: Threads + Sync>(
         → result ≢ code_of Status.OutOfMemory → result ≡ code_of Status.Unreadable }
     ensures missing_within { (task : Task) → asked (texts words.now) ≡ Some task
         → (bytes : List (List ℕ)) → AllHave (F.files shelf.old) (names_in task) bytes
-        → (name : List ℕ) → Contains (names_within task bytes) name → IsMissing (F.files shelf.old) name
-        → result ≢ code_of Status.OutOfMemory
-        → (result ≡ code_of Status.Unreadable)
+        → (name : List ℕ) → Contains (names_within task bytes) name → IsMissing (F.files shelf.old)
+        name → result ≢ code_of Status.OutOfMemory → (result ≡ code_of Status.Unreadable)
         ⊎ ((result ≡ code_of Status.Refused) × (IsReadyFor task bytes → ⊥)) }
 
     // A write to standard output failed. What was written is a front of the output.
@@ -63,22 +62,23 @@ pub fn run<F: Shelf, K: Sink, E: Sink, R: Threads + Sync>(
     // No device is blamed that promises: each read of the command's files up to their limits, or
     // each write. By `works`, none is that promises to take as many bytes as the output has.
     ensures served { (task : Task) → asked (texts words.now) ≡ Some task
-        → ServesTask (F.serves shelf.old) (F.files shelf.old) task → result ≢ code_of Status.Unreadable }
+        → ServesTask (F.serves shelf.old) (F.files shelf.old) task → result
+        ≢ code_of Status.Unreadable }
     ensures taken { TakesAll (K.serves out.old) → result ≢ code_of Status.Unwritable }
 
     // Otherwise, unless memory is wanting, the command does its work on its files.
-    ensures works { (task : Task) → asked (texts words.now) ≡ Some task
-        → result ≢ code_of Status.Unreadable → result ≢ code_of Status.OutOfMemory
-        → Works task (F.files shelf.old) (EndsAs (name_in task) result
-        (Fails K.faults K.serves out.old out.new) (K.written out.old) (K.written out.new) (Gets E.written E.faults E.serves err.old err.new)) }
+    ensures works { (task : Task) → asked (texts words.now) ≡ Some task → result
+        ≢ code_of Status.Unreadable → result ≢ code_of Status.OutOfMemory
+        → Works task (F.files shelf.old)
+        (EndsAs (name_in task) result (Fails K.faults K.serves out.old out.new) (K.written out.old)
+        (K.written out.new) (Gets E.written E.faults E.serves err.old err.new)) }
 
     // Where nothing fails, the work is done or a file refused.
-    ensures complete { (task : Task) → asked (texts words.now) ≡ Some task
-        → (bytes : List (List ℕ)) → AllHave (F.files shelf.old) (names_in task) bytes
-        → AreThere (F.files shelf.old) (names_within task bytes)
-        → (Rose (F.faults shelf.old) (F.faults shelf.new) → ⊥)
-        → (Rose (K.faults out.old) (K.faults out.new) → ⊥)
-        → IsDone result ⊎ ((result ≡ code_of Status.Refused) ⊎ (result ≡ code_of Status.OutOfMemory)) }
+    ensures complete { (task : Task) → asked (texts words.now) ≡ Some task → (bytes : List (List ℕ))
+        → AllHave (F.files shelf.old) (names_in task) bytes → AreThere (F.files shelf.old)
+        (names_within task bytes) → (Rose (F.faults shelf.old) (F.faults shelf.new) → ⊥)
+        → (Rose (K.faults out.old) (K.faults out.new) → ⊥) → IsDone result
+        ⊎ ((result ≡ code_of Status.Refused) ⊎ (result ≡ code_of Status.OutOfMemory)) }
 
     // Nothing is written to standard output where the run stops before.
     ensures unwritten { IsStopped result → K.written out.new ≡ K.written out.old }

@@ -1,4 +1,5 @@
--- What is right of an exercise hangs on its voices, its bars and its cantus: other lines and another setting don't change it.
+-- What is right of an exercise hangs on its voices, its bars and its cantus: other lines and
+-- another setting don't change it.
 use Rattle.std.proofs.Common.{ℕ, List, Option, Some, None}
 use Rattle.std.specs.Prelude.{All}
 use Rattle.fux_grid.specs.declared.exercise.Exercise.{Exercise}

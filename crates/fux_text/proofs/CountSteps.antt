@@ -70,7 +70,8 @@ find-next p a b whole h fails so_far =
     ≡ find p (range_with_len (a + 1) (b - (a + 1))) = rw (range-next a b h, fails) refl in
     sym one ∙ so_far
 
--- where the first number passes a test, all of a range do where the others do; where it doesn't, not all do
+-- where the first number passes a test, all of a range do where the others do; where it doesn't,
+-- not all do
 pub all-next : (p : ℕ → Bool) (a b : ℕ) (whole : Bool) → a < b → p a ≡ true → list_all p (range_with_len a (b - a)) ≡ whole
     → list_all p (range_with_len (a + 1) (b - (a + 1))) ≡ whole
 all-next p a b whole h passes so_far =

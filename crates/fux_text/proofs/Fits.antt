@@ -1,4 +1,5 @@
--- The cells of each voice fit what is given just where those of a setting do (`score-fits`, `line-fits`).
+-- The cells of each voice fit what is given just where those of a setting do (`score-fits`,
+-- `line-fits`).
 use Rattle.std.proofs.Common.{◌≡◌, ℕ, suc, ◌*◌, ◌<◌, Bool, true, false, List, [], ◌∷◌, get_or, length, map, None, refl, sym, subst, ◌∙◌, arith}
 use Rattle.std.specs.Prelude.{◌==◌, ◌&&◌, All, IsTrue, find}
 use Rattle.std.specs.List.{range_with_len}

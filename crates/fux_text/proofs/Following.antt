@@ -1,5 +1,5 @@
--- What is read of a voice: each cell may follow the one before it (`voices-follow`), and there is a line for each
--- voice (`voices-length`).
+-- What is read of a voice: each cell may follow the one before it (`voices-follow`), and there is a
+-- line for each voice (`voices-length`).
 use Rattle.std.proofs.Common.{◌≡◌, ℕ, zero, suc, ◌+◌, ◌-◌, ◌*◌, Bool, true, false, List, [], ◌∷◌, ◌++◌, length, replicate, Option, Some, None, Result, Ok, rules, length-append, refl, ap, subst, arith}
 use Rattle.std.specs.Prelude.{◌==◌, not, IsTrue, codes, if◌then◌else◌, option_map}
 use Rattle.std.specs.List.{AllByRecursion, flat_map}

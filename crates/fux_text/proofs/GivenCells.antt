@@ -1,5 +1,5 @@
--- The items of a bar that is given are read as its cells (`bar_given-own`), and what is read of items may be given
--- (`given-follow`).
+-- The items of a bar that is given are read as its cells (`bar_given-own`), and what is read of
+-- items may be given (`given-follow`).
 use Rattle.std.proofs.Common.{◌≡◌, ◌⊎◌, inl, inr, ℕ, zero, suc, ◌+◌, ◌-◌, ◌≤◌, Bool, true, false, List, [], ◌∷◌, ◌++◌, length, length-append, map, replicate, take, drop, Option, Some, None, Result, Ok, Err, refl, sym, ap, subst, ◌∙◌, append_assoc, arith}
 use Rattle.std.specs.Prelude.{◌==◌, ◌&&◌, not, IsTrue, codes, option_map, if◌then◌else◌}
 use Rattle.std.specs.Fmt.{decimal}
@@ -53,7 +53,8 @@ start-same p q Tied = refl
 start-same p q (Hold r) = refl
 start-same p q (Start r) = refl
 
--- what goes on with a cell goes on with the same ones as that, and is what is held of it where it follows it
+-- what goes on with a cell goes on with the same ones as that, and is what is held of it where it
+-- follows it
 abbrev GoesOnAs : Given → Given → Type 0
 GoesOnAs c d =
     ((x : Given) → given_goes_on d x ≡ given_goes_on c x) × (IsTrue (given_follows c d) → d ≡ given_held c)

@@ -1,5 +1,5 @@
--- `given` lines that are read have the words of such lines, and are of bars of the exercise, which ascend (`givens-read`);
--- they stand in the newest version alone (`givens-version`).
+-- `given` lines that are read have the words of such lines, and are of bars of the exercise, which
+-- ascend (`givens-read`); they stand in the newest version alone (`givens-version`).
 use Rattle.std.proofs.Common.{◌≡◌, inl, inr, ℕ, ◌≤◌, Bool, true, false, List, [], ◌∷◌, ◌++◌, get_or, Option, Some, None, refl, sym, ap, subst, ◌∙◌, append_assoc, arith}
 use Rattle.std.specs.Prelude.{◌==◌, ◌&&◌, ◌||◌, All, AllPairs, codes, nat_lt, if◌then◌else◌}
 use Rattle.std.specs.Fmt.{decimal}

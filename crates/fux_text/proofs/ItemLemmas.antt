@@ -1,11 +1,13 @@
--- The items of cells of any kind, from the first (`items-broken`), and what holds of each of their words (`items-words`).
+-- The items of cells of any kind, from the first (`items-broken`), and what holds of each of their
+-- words (`items-words`).
 use Rattle.std.proofs.Common.{◌≡◌, ℕ, ◌+◌, ◌<◌, ◌≤◌, Bool, true, false, List, [], ◌∷◌, length, get_or, drop, map, refl, ap, sym, subst, ◌∙◌, arith}
 use Rattle.std.specs.List.{list_all}
 use Rattle.std.proofs.lemmas.Bool.{and_from}
 use Rattle.std.proofs.lemmas.List.{drop_more}
 use Rattle.fux_text.specs.Items.{items_by, with_run_by}
 
--- the items of some cells begin with their first cell, so a cell with which that doesn't go on is an item of its own
+-- the items of some cells begin with their first cell, so a cell with which that doesn't go on is
+-- an item of its own
 pub with_run-broken : {C : Type 0} (goes : C → C → Bool) (c d : C) (n m : ℕ) (items : List (C × ℕ)) → goes c d ≡ false
     → with_run_by goes c n (with_run_by goes d m items) ≡ (c, n) ∷ with_run_by goes d m items
 with_run-broken goes c d n m [] h = rw h refl

@@ -1,4 +1,5 @@
--- The items of cells of any kind have these cells (`run-items`), where what goes on with a cell is what is held of it.
+-- The items of cells of any kind have these cells (`run-items`), where what goes on with a cell is
+-- what is held of it.
 use Rattle.std.proofs.Common.{◌≡◌, ℕ, zero, suc, ◌+◌, ◌-◌, ◌≤◌, Bool, true, false, List, [], ◌∷◌, ◌++◌, length, replicate, take, drop, refl, sym, ap, subst, ◌∙◌, append_assoc, arith}
 use Rattle.std.specs.List.{AllByRecursion, flat_map, sum_by}
 use Rattle.std.proofs.lemmas.List.{replicate_more}
@@ -6,8 +7,8 @@ use Rattle.std.proofs.lemmas.List.Sums.{sum_by-cons}
 use Rattle.fux_text.specs.Items.{items_by, with_run_by}
 use Rattle.fux_text.proofs.ItemLemmas.{GoesThrough, with_run-broken, with_run-longer}
 
--- cells that follow one another: one that goes on with the one before it is what is held of that, and each other one
--- begins an item
+-- cells that follow one another: one that goes on with the one before it is what is held of that,
+-- and each other one begins an item
 pub record AreRuns {C : Type 0} (goes : C → C → Bool) (held : C → C) (ties : C → Bool) (Follow : C → List C → Type 0)
     : Type 0 where
   pub through : GoesThrough goes

@@ -1,4 +1,5 @@
--- What is read before the ranges has the words that are written of it (`version-only`, `head-only`).
+-- What is read before the ranges has the words that are written of it (`version-only`,
+-- `head-only`).
 use Rattle.std.proofs.Common.{◌≡◌, ℕ, zero, suc, ◌-◌, Bool, true, false, List, [], ◌∷◌, ◌++◌, map, Option, Some, None, sym, ap, ◌∙◌, append_assoc, arith}
 use Rattle.std.specs.Prelude.{◌==◌, codes, if◌then◌else◌}
 use Rattle.std.specs.Fmt.{decimal}

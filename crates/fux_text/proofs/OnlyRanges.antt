@@ -1,4 +1,5 @@
--- Range and relax lines that are read have the words that are written of them (`ranges-only`, `relaxes-only`).
+-- Range and relax lines that are read have the words that are written of them (`ranges-only`,
+-- `relaxes-only`).
 use Rattle.std.proofs.Common.{◌≡◌, ℕ, Bool, true, false, List, [], ◌∷◌, ◌++◌, map, Option, Some, None, Ok, Err, Result, refl, sym, ap, ◌∙◌, arith}
 use Rattle.std.specs.Prelude.{codes, int_lt, if◌then◌else◌}
 use Rattle.std.specs.Fmt.{decimal}

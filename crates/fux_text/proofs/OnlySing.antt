@@ -1,5 +1,5 @@
--- A `sing` line that is read has the words of a line with these cells, which fit (`sing_line-only`), as many as its bars
--- hold.
+-- A `sing` line that is read has the words of a line with these cells, which fit
+-- (`sing_line-only`), as many as its bars hold.
 use Rattle.std.proofs.Common.{◌≡◌, ℕ, suc, ◌+◌, ◌-◌, ◌*◌, ◌≤◌, Bool, true, false, List, [], ◌∷◌, length, Option, Some, None, Ok, refl, sym, ap, ◌∙◌, arith}
 use Rattle.std.specs.Prelude.{◌==◌, not, codes}
 use Rattle.std.specs.Fmt.{decimal}

@@ -1,5 +1,5 @@
--- A text that is read is a note text of what is read (`note_text-only`), and lines that are read as a setting are its
--- lines (`setting_lines-only`).
+-- A text that is read is a note text of what is read (`note_text-only`), and lines that are read as
+-- a setting are its lines (`setting_lines-only`).
 use Rattle.std.proofs.Common.{◌≡◌, ℕ, List, ◌∷◌, ◌++◌, map, Option, Some, None, Ok, refl, sym, ap, subst, ◌∙◌, append_assoc}
 use Rattle.fux_grid.specs.declared.exercise.Exercise.{Exercise}
 use Rattle.fux_grid.specs.declared.exercise.RangeLine.{RangeLine}

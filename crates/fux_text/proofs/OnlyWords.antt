@@ -1,5 +1,5 @@
--- What is read as a name or a number is what is written of it, and a right line has the words that its row says
--- (`line-words`, `many-words`).
+-- What is read as a name or a number is what is written of it, and a right line has the words that
+-- its row says (`line-words`, `many-words`).
 use Rattle.std.proofs.Common.{◌≡◌, ℕ, ◌+◌, ◌-◌, ◌*◌, ◌/◌, ◌%◌, ◌≤◌, ◌^◌, Bool, true, false, List, [], ◌∷◌, ◌++◌, length, map, Option, Some, None, Ok, refl, sym, ap, subst, ◌∙◌, append_assoc, arith}
 use Rattle.std.specs.Prelude.{◌==◌, ◌&&◌, not, codes, find, nat_le, option_map, if◌then◌else◌}
 use Rattle.std.specs.Fmt.{decimal}

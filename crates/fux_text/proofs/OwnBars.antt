@@ -1,5 +1,5 @@
--- A `sing` line is read as the cells of its items (`sing_line-own`), and the line that is written of a voice has the
--- cells of the voice (`sing_words-sung`).
+-- A `sing` line is read as the cells of its items (`sing_line-own`), and the line that is written
+-- of a voice has the cells of the voice (`sing_words-sung`).
 use Rattle.std.proofs.Common.{◌≡◌, ℕ, zero, suc, ◌+◌, ◌-◌, ◌*◌, ◌/◌, ◌<◌, ◌≤◌, Bool, true, List, [], ◌∷◌, ◌++◌, length, length-append, length-drop, map, take, drop, Ok, refl, sym, ap, subst, ◌∙◌, append_assoc, arith}
 use Rattle.std.specs.Prelude.{codes}
 use Rattle.std.specs.Fmt.{decimal}

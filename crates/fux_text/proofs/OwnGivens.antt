@@ -1,5 +1,5 @@
--- The `given` lines of a valid exercise are read back (`givens-own`), and those that are written are such lines
--- (`given_words-lines`).
+-- The `given` lines of a valid exercise are read back (`givens-own`), and those that are written
+-- are such lines (`given_words-lines`).
 use Rattle.std.proofs.Common.{◌≡◌, ◌⊎◌, inl, inr, ℕ, suc, ◌+◌, ◌<◌, ◌≤◌, true, false, List, [], ◌∷◌, ◌++◌, get_or, length, length-append, map, Some, Ok, refl, sym, ap, subst, ◌∙◌, append_assoc, arith}
 use Rattle.std.specs.Prelude.{◌==◌, ◌&&◌, ◌||◌, All, AllPairs, codes, nat_lt}
 use Rattle.std.specs.Fmt.{decimal}

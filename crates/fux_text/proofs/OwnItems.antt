@@ -1,4 +1,5 @@
--- The items of a bar are read as their cells (`bar-own`), and a bar's cells are those of its items (`items-of_bar`).
+-- The items of a bar are read as their cells (`bar-own`), and a bar's cells are those of its items
+-- (`items-of_bar`).
 use Rattle.std.proofs.Common.{◌≡◌, ℕ, ◌+◌, ◌*◌, ◌<◌, ◌≤◌, Bool, true, false, List, [], ◌∷◌, ◌++◌, length, length-append, map, take, drop, Some, None, Ok, refl, sym, ap, subst, ◌∙◌, append_assoc, arith}
 use Rattle.std.specs.Prelude.{◌==◌, not, IsTrue, codes, option_map, if◌then◌else◌}
 use Rattle.std.specs.Fmt.{decimal}

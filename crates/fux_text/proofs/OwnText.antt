@@ -1,5 +1,6 @@
--- A note text is read as its exercise (`note_text-read`), and what is written is a note text (`note_text-own`). So it is
--- with the `sing` lines of a setting alone (`setting_lines-read`, `sing_lines-own`).
+-- A note text is read as its exercise (`note_text-read`), and what is written is a note text
+-- (`note_text-own`). So it is with the `sing` lines of a setting alone (`setting_lines-read`,
+-- `sing_lines-own`).
 use Rattle.std.proofs.Common.{◌≡◌, inl, inr, ℕ, suc, ◌+◌, ◌≤◌, true, false, List, [], ◌∷◌, ◌++◌, length, map, Option, Some, None, Ok, refl, sym, ap, subst, ◌∙◌, append_assoc, arith}
 use Rattle.std.specs.Prelude.{IfSome, codes, ⊤}
 use Rattle.std.specs.Fmt.{decimal}

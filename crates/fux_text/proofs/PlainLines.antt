@@ -1,4 +1,5 @@
--- What is written of an exercise and a setting are lines of words (`exercise_lines-plain`, `sung_lines-plain`).
+-- What is written of an exercise and a setting are lines of words (`exercise_lines-plain`,
+-- `sung_lines-plain`).
 use Rattle.std.proofs.Common.{◌≡◌, ℕ, zero, suc, ◌+◌, ◌-◌, ◌*◌, ◌/◌, ◌%◌, ◌^◌, ◌<◌, ◌≤◌, Bool, true, false, List, [], ◌∷◌, ◌++◌, get_or, length, length-append, map, drop, Option, Some, None, refl, subst, ◌∙◌, arith}
 use Rattle.std.specs.Prelude.{◌==◌, not, All, codes, nat_lt, filter, IfSome}
 use Rattle.std.specs.Fmt.{decimal, digits}

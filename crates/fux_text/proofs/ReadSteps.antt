@@ -1,5 +1,5 @@
--- A note text is read step by step: behind right lines reading goes on with those of the setting (`read-setting`,
--- `fail-setting`).
+-- A note text is read step by step: behind right lines reading goes on with those of the setting
+-- (`read-setting`, `fail-setting`).
 use Rattle.std.proofs.Common.{◌≡◌, ℕ, List, [], Option, Result, Ok, Err, codes, refl, subst}
 use Rattle.fux_grid.specs.declared.exercise.Exercise.{Exercise}
 use Rattle.fux_grid.specs.declared.exercise.RangeLine.{RangeLine}

@@ -1,5 +1,6 @@
--- A text is read just where its lines have the words of what is read (`texts-read`, `sing_texts-read`), and told to have a
--- fault just where it is its first one (`faults-read`, `sing_faults-read`).
+-- A text is read just where its lines have the words of what is read (`texts-read`,
+-- `sing_texts-read`), and told to have a fault just where it is its first one (`faults-read`,
+-- `sing_faults-read`).
 use Rattle.std.proofs.Common.{◌≡◌, ℕ, List, Result, Ok, Err, ◌⊎◌, inl, inr, refl, ap, arith, ◌<◌, length}
 use Rattle.fux_grid.specs.declared.exercise.Exercise.{Exercise}
 use Rattle.fux_grid.specs.Exercises.{IsValid}

@@ -18,7 +18,8 @@ appended a b c d e x y z w p q r s =
     s ∙ ap (λ t. t ++ w) (r ∙ ap (λ t. t ++ z) (q ∙ ap (λ t. t ++ y) p))
     ∙ append_assoc (a ++ x ++ y) z w ∙ append_assoc (a ++ x) y (z ++ w) ∙ append_assoc a x (y ++ (z ++ w))
 
--- the text of an exercise up to what it gives: the lines before the cantus, the cantus, the ranges and the relax lines
+-- the text of an exercise up to what it gives: the lines before the cantus, the cantus, the ranges
+-- and the relax lines
 pub text_before_given-parts : (ex : Exercise) → text_before_given ex
     ≡ text_of (version_words (version_of ex.given) ∷ head_lines ex)
     ++ (text_line (cantus_words ex) ++ (text_of (map range_words ex.ranges) ++ text_of (map relax_words ex.relax)))

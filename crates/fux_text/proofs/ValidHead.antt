@@ -1,5 +1,5 @@
--- The lines before the ranges give numbers within their limits, and a pitch for each bar (`head-valid`); the version is one
--- of those that there are (`version-bounds`).
+-- The lines before the ranges give numbers within their limits, and a pitch for each bar
+-- (`head-valid`); the version is one of those that there are (`version-bounds`).
 use Rattle.std.proofs.Common.{◌≡◌, ◌≢◌, ℕ, zero, suc, ◌+◌, ◌-◌, ◌<◌, List, [], ◌∷◌, ◌++◌, length, None, length-append, refl, sym, ap, subst, arith}
 use Rattle.fux_pitch.specs.declared.pitch.Pitch.{Pitch}
 use Rattle.fux_grid.specs.declared.exercise.Exercise.{Exercise}

@@ -1,4 +1,5 @@
--- Range lines that are read fit the exercise, and each voice's first one is for all bars (`ranges-valid`).
+-- Range lines that are read fit the exercise, and each voice's first one is for all bars
+-- (`ranges-valid`).
 use Rattle.std.proofs.Common.{◌≡◌, ℕ, ◌≤◌, ◌≤ℤ◌, Bool, true, false, List, [], ◌∷◌, ◌++◌, get_or, Option, Some, None, refl, sym, ap, subst, ◌∙◌, append_assoc, arith}
 use Rattle.std.specs.Prelude.{◌==◌, ◌||◌, All, filter, IfSome, IsSome, is_some, if◌then◌else◌, ⊤}
 use Rattle.std.specs.List.{range_with_len}

@@ -17,7 +17,8 @@ use Rattle.fux_text.proofs.OnlySing.{IsLineFor, sing_line-only}
 use Rattle.voice_lines.specs.Lines.{cantus_cells, score_of}
 use Rattle.voice_lines.proofs.CantusLines.{score_given}
 
--- what is read of voices: those before are kept, the cantus has its cells, and those of the others fit
+-- what is read of voices: those before are kept, the cantus has its cells, and those of the others
+-- fit
 pub record KeepsLines (fit : Fit) (ex : Exercise) (a n : ℕ) (before lines : List (List Cell)) : Type 0 where
   pub kept : (k : ℕ) → k < a → get_or lines k [] ≡ get_or before k []
   pub cantus : a ≤ ex.cantus_voice → ex.cantus_voice < a + n → get_or lines ex.cantus_voice [] ≡ cantus_cells ex.cantus

@@ -1,5 +1,5 @@
--- The items of a `given` line, as they are written: notes, blanks, rests, and what goes on from the bar before, with their
--- lengths.
+-- The items of a `given` line, as they are written: notes, blanks, rests, and what goes on from the
+-- bar before, with their lengths.
 use Rattle.std.specs.Prelude.{ℕ, List, ◌∷◌, ◌++◌, Bool, true, false, codes}
 use Rattle.std.specs.Fmt.{decimal}
 use Rattle.fux_pitch.specs.Names.{name_of}
@@ -9,7 +9,8 @@ use Rattle.fux_grid.specs.declared.given.Given.{Given}
 use Rattle.fux_grid.specs.declared.given.Given.TheVariants.{Blank, Rest, Tied, Hold, Start}
 use Rattle.fux_text.specs.Items.{items_by}
 
--- the second cell goes on with what the first one gives: with its blank, its rest, its tie or its note
+-- the second cell goes on with what the first one gives: with its blank, its rest, its tie or its
+-- note
 abbrev pub given_goes_on : Given → Given → Bool
 given_goes_on Blank Blank = true
 given_goes_on Blank Rest = false
@@ -41,7 +42,8 @@ given_goes_on (Start q) (Start p) = false
 abbrev pub given_items : List Given → List (Given × ℕ)
 given_items cells = items_by given_goes_on cells
 
--- what an item is called: a note by its pitch, `_` goes on with what sounded, `r` is a rest, and `?` is left blank
+-- what an item is called: a note by its pitch, `_` goes on with what sounded, `r` is a rest, and
+-- `?` is left blank
 abbrev pub given_name : Given → List ℕ
 given_name Blank = codes "?"
 given_name Rest = codes "r"

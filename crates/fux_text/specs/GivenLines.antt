@@ -1,4 +1,5 @@
 -- The `given` lines, as rows.
+use Rattle.text_lines.specs.Faults.{◌>>=◌}
 use Rattle.std.specs.Prelude.{ℕ, ◌-◌, ◌==◌, ◌&&◌, ◌||◌, not, Bool, true, false, List, [], ◌∷◌, ◌++◌, Option, Some, None, Result, Ok, Err, codes, length, nat_lt, option_map, replicate, if◌then◌else◌}
 use Rattle.std.specs.List.{list_all}
 use Rattle.std.specs.Option.{ok_or, option_and_then}
@@ -8,7 +9,6 @@ use Rattle.fux_grid.specs.declared.given.Given.TheVariants.{Blank, Rest, Tied, H
 use Rattle.fux_grid.specs.declared.given.GivenBar.{GivenBar}
 use Rattle.fux_text.specs.declared.fault.TextKind.{TextKind}
 use Rattle.fux_text.specs.declared.fault.TextKind.TheVariants as kinds
-use Rattle.text_lines.specs.Faults.{◌>>=◌}
 use Rattle.text_lines.specs.Numbers.{if_within, number_within}
 use Rattle.text_lines.specs.Reading.{same_text}
 use Rattle.text_lines.specs.Rows.{Row, Run, named_place, refused_if}
@@ -51,8 +51,9 @@ is_tied Tied = true
 is_tied (Hold p) = true
 is_tied (Start p) = false
 
--- an item behind these cells: its first cell, and how many it has; or what is wrong with it, of several faults the first.
--- A tie goes on from the bar before, whatever sounded there, so it is the first item
+-- an item behind these cells: its first cell, and how many it has; or what is wrong with it, of
+-- several faults the first. A tie goes on from the bar before, whatever sounded there, so it is the
+-- first item
 unfoldable pub given_said : List Given → List ℕ → Result (Given × ℕ) TextKind
 given_said cells text = do
   parts ← ok_or (item_parts text) kinds.Word
@@ -91,7 +92,8 @@ if_behind before v bar = if comes_behind before v bar then Some bar else None
 abbrev pub later_bar : List GivenBar → ℕ → ℕ → List ℕ → Option ℕ
 later_bar before bars v text = option_and_then (if_behind before v) (number_within 1 bars text)
 
--- `given V BAR ITEMS`, where these lines stand before: V is a free voice, and BAR a bar that comes behind theirs
+-- `given V BAR ITEMS`, where these lines stand before: V is a free voice, and BAR a bar that comes
+-- behind theirs
 abbrev pub given_row : Exercise → List GivenBar → Row TextKind GivenBar
 given_row ex before =
     Row.place (named_place kinds.Word kinds.Word (other_voice ex.cantus_voice ex.voices)) (λ v.

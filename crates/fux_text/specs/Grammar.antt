@@ -1,5 +1,5 @@
--- The grammar of the note text: which words its lines have. But for `given` and `sing` lines they are those that are
--- written.
+-- The grammar of the note text: which words its lines have. But for `given` and `sing` lines they
+-- are those that are written.
 use Rattle.std.specs.Prelude.{All, reverse, ◌≡◌, ◌⊎◌, ℕ, ◌≤◌, List, [], ◌∷◌, ◌++◌, Option, Some, None, codes, length, ⊤}
 use Rattle.std.specs.Fmt.{decimal}
 use Rattle.std.specs.Str.{IsUtf8}
@@ -15,14 +15,15 @@ use Rattle.fux_text.specs.Lines.{free_voices, lines_before_given}
 use Rattle.fux_text.specs.Sing.{sung_run}
 use Rattle.fux_text.specs.Words.{words_in}
 
--- the words of a `sing` line: its voice, and items and bar lines that run through so many bars and have these cells
+-- the words of a `sing` line: its voice, and items and bar lines that run through so many bars and
+-- have these cells
 pub record IsSung (bars v : ℕ) (words : List (List ℕ)) (cells : List Cell) : Type 0 where
   pub items : List (List ℕ)
   pub written : words ≡ codes "sing" ∷ decimal v ∷ items
   pub run : IsRun (sung_run bars) (0, []) items cells
 
--- a setting of an exercise: a complete score with the cantus, whose columns have a cell for each voice and follow one
--- another (the last two hold of every score of the program)
+-- a setting of an exercise: a complete score with the cantus, whose columns have a cell for each
+-- voice and follow one another (the last two hold of every score of the program)
 pub record IsSettingOf (ex : Exercise) (score : Grid) : Type 0 where
   pub given : IsGiven ex score
   pub full : All (λ col. length col ≡ ex.voices) score.columns
@@ -57,8 +58,8 @@ AreGivenLines (words ∷ lines) (line ∷ given) = IsGivenLine words line × Are
 abbrev pub IsVersionFor : ℕ → List GivenBar → Type 0
 IsVersionFor version given = ((version ≡ 1) × (given ≡ [])) ⊎ (version ≡ 2)
 
--- a note text of an exercise whose species aren't mixed: it has the exercise's lines in a version, those of the notes that
--- the exercise gives, and then those of its setting, if it has one
+-- a note text of an exercise whose species aren't mixed: it has the exercise's lines in a version,
+-- those of the notes that the exercise gives, and then those of its setting, if it has one
 pub record IsNoteText (bytes : List ℕ) (ex : Exercise) : Type 0 where
   pub short : length bytes ≤ 65536
   pub utf8 : IsUtf8 bytes

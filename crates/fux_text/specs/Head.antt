@@ -43,8 +43,8 @@ abbrev pub pitches_row : ℕ → ℕ → List Pitch → Row TextKind (ℕ × Lis
 pitches_row v zero before = Row.ends kinds.Cantus (v, before)
 pitches_row v (suc n) before = Row.place (pitch_place kinds.Cantus) (λ p. pitches_row v n (before ++ p ∷ []))
 
--- `cantus C PITCHES`: C is another voice than the species voice, and there is a pitch for each bar; a missing one is
--- `cantus`, as one too many
+-- `cantus C PITCHES`: C is another voice than the species voice, and there is a pitch for each bar;
+-- a missing one is `cantus`, as one too many
 abbrev pub cantus_row : ℕ → ℕ → ℕ → Row TextKind (ℕ × List Pitch)
 cantus_row voices species_voice bars =
     Row.place (named_place kinds.Cantus kinds.Cantus (other_voice species_voice voices)) (λ v. pitches_row v bars [])

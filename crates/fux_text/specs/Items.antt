@@ -17,7 +17,8 @@ goes_on (Start q) Rest = false
 goes_on (Start q) (Hold p) = true
 goes_on (Start q) (Start p) = false
 
--- items after so many cells that begin with this one: they are one item with the first of those where that goes on
+-- items after so many cells that begin with this one: they are one item with the first of those
+-- where that goes on
 abbrev pub with_run_by : {C : Type 0} → (C → C → Bool) → C → ℕ → List (C × ℕ) → List (C × ℕ)
 with_run_by goes c n [] = (c, n) ∷ []
 with_run_by goes c n (item ∷ items) = if goes c item.0 then (c, n + item.1) ∷ items else (c, n) ∷ item ∷ items

@@ -17,7 +17,8 @@ use Rattle.fux_text.specs.Names.{pitch_named}
 abbrev pub has_line : List RangeLine → ℕ → Bool
 has_line lines v = list_any (λ line. line.voice == v) lines
 
--- whether a line can't go on so behind LOW and HIGH: a voice's first line ends there, and each later one has bars
+-- whether a line can't go on so behind LOW and HIGH: a voice's first line ends there, and each
+-- later one has bars
 abbrev pub misfits_behind : Bool → Option (PlacedWord × LineWords) → Bool
 misfits_behind later None = later
 misfits_behind later (Some from) = not later

@@ -1,4 +1,5 @@
--- What is written is read back: the laws that tie the two directions of the note text to one another.
+-- What is written is read back: the laws that tie the two directions of the note text to one
+-- another.
 use Rattle.std.specs.Prelude.{◌⊎◌, ◌≡◌, ◌↔◌, ℕ, Ok, Err, ◌<◌, ◌≤◌, ◌^◌, List, Option, Some, None, IfSome, length}
 use Rattle.fux_grid.specs.declared.cell.Cell.{Cell}
 use Rattle.fux_grid.specs.declared.exercise.Exercise.{Exercise}
@@ -17,8 +18,8 @@ abbrev pub SetsReadBack : Type 0
 SetsReadBack = (voices : ℕ) (set : Option VoiceSet) → 1 ≤ voices → voices ≤ 4
     → IfSome set (λ s. (1 ≤ s.bits) × (s.bits < 2 ^ voices)) → voices_named voices (voices_word set) ≡ Some set
 
--- what is written of an exercise whose species aren't mixed, with a setting that fits what is given or without, is a note
--- text of that exercise with that setting, where it isn't too long to be read
+-- what is written of an exercise whose species aren't mixed, with a setting that fits what is given
+-- or without, is a note text of that exercise with that setting, where it isn't too long to be read
 abbrev pub NoteTextReadsBack : Type 0
 NoteTextReadsBack = (ex : Exercise) (score : Option Grid) → IsValid ex → ex.mixed ≡ None → IfSome score (IsSettingOf ex)
     → IfSome score (λ setting. FitsGiven ex setting.columns) → length (note_text ex score) ≤ 65536

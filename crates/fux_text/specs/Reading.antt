@@ -13,7 +13,8 @@ use Rattle.fux_text.specs.Relaxing.{relax_lines_of}
 use Rattle.fux_text.specs.Sing.{setting_table, sung_table}
 use Rattle.fux_text.specs.declared.fault.TextKind.{TextKind}
 
--- the lines behind those before the ranges, in a version: the cells of a setting have to fit what is given
+-- the lines behind those before the ranges, in a version: the cells of a setting have to fit what
+-- is given
 abbrev pub later_table : ℕ → Exercise → Table TextKind Exercise
 later_table version ex =
     Table.behind (ranges_table ex) (λ ranges.

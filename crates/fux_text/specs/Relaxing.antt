@@ -28,8 +28,8 @@ voices_named voices text =
     if same_text (voices_word None) text then Some None
     else option_map (λ bits. Some (record { bits = bits })) (find (is_set text) (range_with_len 1 (2 ^ voices - 1)))
 
--- `relax RULE VOICES FROM TO PRICE`: a rule from S4 to S26, a set of voices or `all`, bars that don't go down, and a price
--- of 0 to 10,000; what is wrong or missing is `word`
+-- `relax RULE VOICES FROM TO PRICE`: a rule from S4 to S26, a set of voices or `all`, bars that
+-- don't go down, and a price of 0 to 10,000; what is wrong or missing is `word`
 abbrev pub relax_row : Exercise → Row TextKind Relax
 relax_row ex =
     Row.place (named_place kinds.Word kinds.Word rule_named) (λ rule.

@@ -32,7 +32,8 @@ item_named text =
     if same_text text (codes "r") then Some names.Silence
     else (if same_text text (codes "_") then Some names.Tie else option_map names.Note (pitch_named text))
 
--- the first cell of an item behind a cell; `_` stands only at the beginning of a bar, and where something sounds
+-- the first cell of an item behind a cell; `_` stands only at the beginning of a bar, and where
+-- something sounds
 abbrev pub first_cell : Bool → Cell → ItemName → Option Cell
 first_cell begins_bar before names.Silence = Some Rest
 first_cell begins_bar before names.Tie = if begins_bar then option_map Hold (pitch_of before) else None
@@ -53,8 +54,8 @@ held (Start p) = Hold p
 abbrev pub item_cells : Cell → ℕ → List Cell
 item_cells first count = first ∷ replicate (count - 1) (held first)
 
--- an item behind so many bars and these cells: its first cell, and how many it has; or what is wrong with it, of several
--- faults the first
+-- an item behind so many bars and these cells: its first cell, and how many it has; or what is
+-- wrong with it, of several faults the first
 unfoldable pub item_said : ℕ → List Cell → List ℕ → Result (Cell × ℕ) TextKind
 item_said bar cells text = do
   parts ← ok_or (item_parts text) kinds.Word
@@ -124,8 +125,8 @@ sing_row fit bars v = Row.place (sung_place fit bars v) (λ _. Row.runs (sung_ru
 abbrev pub Fit : Type 0
 Fit = ℕ → List Cell → Bool
 
--- the cells of a voice: those of the cantus, or those of its `sing` line, which have to fit, and of which a missing one is
--- `sing`
+-- the cells of a voice: those of the cantus, or those of its `sing` line, which have to fit, and of
+-- which a missing one is `sing`
 abbrev pub cantus_or_sung : Fit → Exercise → ℕ → Bool → Table TextKind (List Cell)
 cantus_or_sung fit ex v true = Table.says (cantus_cells ex.cantus)
 cantus_or_sung fit ex v false = Table.line kinds.Sing kinds.Head (codes "sing") (sing_row (fit v) ex.bars v)

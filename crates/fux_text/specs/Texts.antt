@@ -11,12 +11,13 @@ use Rattle.fux_text.specs.Grammar.{AreSettingLines, IsNoteText}
 use Rattle.fux_text.specs.Reading.{note_format, note_table}
 use Rattle.fux_text.specs.Sing.{sung_table}
 
--- the bytes are a note text of the exercise: their lines have its words (what is read of them is the exercise just then)
+-- the bytes are a note text of the exercise: their lines have its words (what is read of them is
+-- the exercise just then)
 unfoldable pub IsTextOf : List ℕ → Exercise → Type 0
 IsTextOf bytes ex = IsNoteText bytes ex
 
--- the bytes are no note text, and this is their first fault: up to there they are as those of a note text (it is what
--- reading tells just then)
+-- the bytes are no note text, and this is their first fault: up to there they are as those of a
+-- note text (it is what reading tells just then)
 unfoldable pub HasFault : List ℕ → TextKind → ℕ → ℕ → Type 0
 HasFault bytes kind line column =
     IsTextFault (note_format note_table) bytes (record { kind = kind; line = line; column = column })

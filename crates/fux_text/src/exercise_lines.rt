@@ -48,7 +48,8 @@ fn put_head(out: &mut String, ex: &Exercise) -> Result<(), Memory>
 
 /// Appends the names of pitches, with a space before each.
 fn put_pitches(out: &mut String, pitches: &[Pitch]) -> Result<(), Memory>
-    ensures { OnOk result (string_bytes out.new ≡ string_bytes out.old ++ spaced (map name_of pitches.now)) }
+    ensures { OnOk result (string_bytes out.new ≡ string_bytes out.old
+        ++ spaced (map name_of pitches.now)) }
 {
     for pitch in pitches {
         write!(out, " {pitch}")?;
@@ -59,7 +60,8 @@ fn put_pitches(out: &mut String, pitches: &[Pitch]) -> Result<(), Memory>
 /// Appends the line of the cantus.
 #[tactic(auto, using(crate::proofs::WordLemmas::line_steps))]
 fn put_cantus(out: &mut String, ex: &Exercise) -> Result<(), Memory>
-    ensures { OnOk result (string_bytes out.new ≡ string_bytes out.old ++ text_line (cantus_words ex.now)) }
+    ensures { OnOk result (string_bytes out.new ≡ string_bytes out.old
+        ++ text_line (cantus_words ex.now)) }
 {
     let voice = ex.cantus_voice;
     write!(out, "cantus {voice}")?;
@@ -70,7 +72,8 @@ fn put_cantus(out: &mut String, ex: &Exercise) -> Result<(), Memory>
 
 /// Appends a range line.
 fn put_range(out: &mut String, line: &RangeLine) -> Result<(), Memory>
-    ensures { OnOk result (string_bytes out.new ≡ string_bytes out.old ++ text_line (range_words line.now)) }
+    ensures { OnOk result (string_bytes out.new ≡ string_bytes out.old
+        ++ text_line (range_words line.now)) }
 {
     let voice = line.voice;
     let low = line.low;
@@ -84,7 +87,8 @@ fn put_range(out: &mut String, line: &RangeLine) -> Result<(), Memory>
 
 /// Appends range lines.
 fn put_ranges(out: &mut String, lines: &[RangeLine]) -> Result<(), Memory>
-    ensures { OnOk result (string_bytes out.new ≡ string_bytes out.old ++ text_of (map range_words lines.now)) }
+    ensures { OnOk result (string_bytes out.new ≡ string_bytes out.old
+        ++ text_of (map range_words lines.now)) }
 {
     for line in lines {
         put_range(out, line)?;
@@ -116,7 +120,8 @@ fn voices_in(set: VoiceSet) -> ArrayVec<u8, 4>
 
 /// Appends numbers with a comma before each.
 fn put_more_numbers(out: &mut String, numbers: &[u8]) -> Result<(), Memory>
-    ensures { OnOk result (string_bytes out.new ≡ string_bytes out.old ++ flat_map (λ word. 44 ∷ word) (map decimal numbers.now)) }
+    ensures { OnOk result (string_bytes out.new ≡ string_bytes out.old
+        ++ flat_map (λ word. 44 ∷ word) (map decimal numbers.now)) }
 {
     for number in numbers {
         write!(out, ",{number}")?;
@@ -127,7 +132,8 @@ fn put_more_numbers(out: &mut String, numbers: &[u8]) -> Result<(), Memory>
 /// Appends numbers with commas between them.
 #[tactic(auto, using(crate::proofs::WordLemmas::line_steps))]
 fn put_numbers(out: &mut String, numbers: &[u8]) -> Result<(), Memory>
-    ensures { OnOk result (string_bytes out.new ≡ string_bytes out.old ++ join_with_byte 44 (map decimal numbers.now)) }
+    ensures { OnOk result (string_bytes out.new ≡ string_bytes out.old ++ join_with_byte 44
+        (map decimal numbers.now)) }
 {
     match numbers {
         [] => Ok(()),
@@ -151,7 +157,8 @@ fn put_voices(out: &mut String, voices: Option<VoiceSet>) -> Result<(), Memory>
 
 /// Appends a relax line.
 fn put_relax(out: &mut String, line: &Relax) -> Result<(), Memory>
-    ensures { OnOk result (string_bytes out.new ≡ string_bytes out.old ++ text_line (relax_words line.now)) }
+    ensures { OnOk result (string_bytes out.new ≡ string_bytes out.old
+        ++ text_line (relax_words line.now)) }
 {
     let rule = line.rule;
     let from = line.from;
@@ -165,7 +172,8 @@ fn put_relax(out: &mut String, line: &Relax) -> Result<(), Memory>
 
 /// Appends relax lines.
 fn put_relax_lines(out: &mut String, lines: &[Relax]) -> Result<(), Memory>
-    ensures { OnOk result (string_bytes out.new ≡ string_bytes out.old ++ text_of (map relax_words lines.now)) }
+    ensures { OnOk result (string_bytes out.new ≡ string_bytes out.old
+        ++ text_of (map relax_words lines.now)) }
 {
     for line in lines {
         put_relax(out, line)?;
@@ -175,7 +183,8 @@ fn put_relax_lines(out: &mut String, lines: &[Relax]) -> Result<(), Memory>
 
 /// Appends the lines of an exercise up to those of the notes that it gives.
 fn put_before_given(out: &mut String, ex: &Exercise) -> Result<(), Memory>
-    ensures { OnOk result (string_bytes out.new ≡ string_bytes out.old ++ text_before_given ex.now) }
+    ensures { OnOk result (string_bytes out.new ≡ string_bytes out.old ++ text_before_given
+        ex.now) }
 {
     put_head(out, ex)?;
     put_cantus(out, ex)?;

@@ -109,7 +109,8 @@ fn word_given(cells: &mut Vec<Given>, word: Word<'_>) -> Result<(), TextFault>
 
 /// The cells of a bar, where they fill it.
 fn whole_bar(cells: &[Given]) -> Option<[Given; 8]>
-    ensures { MatchOption result (length cells.now ≢ 8) (λ bar. (length cells.now ≡ 8) × (bar ≡ cells.now)) }
+    ensures { MatchOption result (length cells.now ≢ 8) (λ bar. (length cells.now ≡ 8)
+        × (bar ≡ cells.now)) }
 {
     match <[Given; 8]>::try_from(cells) {
         Ok(bar) => Some(bar),
@@ -119,7 +120,8 @@ fn whole_bar(cells: &[Given]) -> Option<[Given; 8]>
 
 /// Reads the items of a bar, with which the line ends.
 fn given_in(alloc: Global, words: Words<'_>, voice: u8, bar: u8) -> Result<GivenBar, TextFault>
-    ensures { Gives (λ x. x) result (row_in (Row.runs (given_run voice bar) []) (words_of words.entry)) }
+    ensures { Gives (λ x. x) result (row_in (Row.runs (given_run voice bar) [])
+        (words_of words.entry)) }
 {
     let mut cells = Vec::new(alloc);
     let mut rest = words;
@@ -191,8 +193,8 @@ pub fn given_lines_in<'a>(
     version: u8,
     ex: &Exercise,
 ) -> Result<(Vec<GivenBar>, Lines<'a>), TextFault>
-    ensures { Gives (λ x. (x.0.items, lines_of x.1)) result
-        (many_in (given_lines_of version ex.now) [] (lines_of text.entry).after (lines_of text.entry).lines) }
+    ensures { Gives (λ x. (x.0.items, lines_of x.1)) result (many_in (given_lines_of version ex.now)
+        [] (lines_of text.entry).after (lines_of text.entry).lines) }
 {
     let mut lines = Vec::new(alloc);
     let mut rest = text;
@@ -217,7 +219,8 @@ pub fn version_of(given: &[GivenBar]) -> u8
 /// Appends a `given` line.
 #[tactic(auto, using(crate::proofs::WordLemmas::line_steps))]
 fn put_given(out: &mut String, line: &GivenBar) -> Result<(), Memory>
-    ensures { OnOk result (string_bytes out.new ≡ string_bytes out.old ++ text_line (given_words line.now)) }
+    ensures { OnOk result (string_bytes out.new ≡ string_bytes out.old
+        ++ text_line (given_words line.now)) }
 {
     let voice = line.voice;
     let bar = line.bar;
@@ -229,7 +232,8 @@ fn put_given(out: &mut String, line: &GivenBar) -> Result<(), Memory>
 
 /// Appends `given` lines.
 pub fn put_given_lines(out: &mut String, lines: &[GivenBar]) -> Result<(), Memory>
-    ensures { OnOk result (string_bytes out.new ≡ string_bytes out.old ++ text_of (map given_words lines.now)) }
+    ensures { OnOk result (string_bytes out.new ≡ string_bytes out.old
+        ++ text_of (map given_words lines.now)) }
 {
     for line in lines {
         put_given(out, line)?;

@@ -21,7 +21,8 @@ use text_lines::{Lines, Words, parse_within};
 /// Reads `mode M`.
 #[tactic(auto, unfolding(text_lines::specs::Tables::line_in, text_lines::specs::Rows::row_in))]
 fn mode_line(text: Lines<'_>) -> Result<(Mode, Lines<'_>), TextFault>
-    ensures { Gives (λ x. (x.0, lines_of x.1)) result (line_in Head Head (codes "mode") mode_row (lines_of text.entry)) }
+    ensures { Gives (λ x. (x.0, lines_of x.1)) result (line_in Head Head (codes "mode") mode_row
+        (lines_of text.entry)) }
 {
     let (words, text) = text.headed(TextKind::Head, TextKind::Head, b"mode")?;
     let (word, words) = words.next(TextKind::Word)?;
@@ -41,7 +42,8 @@ fn number_line<'a>(
     least: u8,
     most: u8,
 ) -> Result<(u8, Lines<'a>), TextFault>
-    ensures value { Gives (λ x. (x.0, lines_of x.1)) result (line_in Head Head name.now (number_row kind least most) (lines_of text.entry)) }
+    ensures value { Gives (λ x. (x.0, lines_of x.1)) result
+        (line_in Head Head name.now (number_row kind least most) (lines_of text.entry)) }
     ensures least { IfOk result (λ x. least ≤ x.0) }
     ensures most { IfOk result (λ x. x.0 ≤ most) }
 {
@@ -53,7 +55,8 @@ fn number_line<'a>(
 
 /// Reads `fux V`: a version up to the newest.
 pub fn version_line(text: Lines<'_>) -> Result<(u8, Lines<'_>), TextFault>
-    ensures { Gives (λ x. (x.0, lines_of x.1)) result (line_in Head Head (codes "fux") (number_row Word 1 newest_version) (lines_of text.entry)) }
+    ensures { Gives (λ x. (x.0, lines_of x.1)) result (line_in Head Head (codes "fux")
+        (number_row Word 1 newest_version) (lines_of text.entry)) }
 {
     number_line(text, b"fux", TextKind::Word, 1, NEWEST_VERSION)
 }
@@ -61,7 +64,8 @@ pub fn version_line(text: Lines<'_>) -> Result<(u8, Lines<'_>), TextFault>
 /// Reads `species N voice V`.
 #[tactic(auto, unfolding(text_lines::specs::Tables::line_in, text_lines::specs::Rows::row_in, text_lines::specs::Reading::number_in, text_lines::specs::Reading::literal))]
 fn species_line(text: Lines<'_>, voices: u8) -> Result<((u8, u8), Lines<'_>), TextFault>
-    ensures { Gives (λ x. (x.0, lines_of x.1)) result (line_in Head Head (codes "species") (species_row voices) (lines_of text.entry)) }
+    ensures { Gives (λ x. (x.0, lines_of x.1)) result (line_in Head Head (codes "species")
+        (species_row voices) (lines_of text.entry)) }
 {
     let (words, text) = text.headed(TextKind::Head, TextKind::Head, b"species")?;
     let (species, words) = words.small_number(TextKind::Word, 1, MOST_SPECIES)?;
@@ -84,7 +88,8 @@ pub fn other_voice(word: &[u8], other: u8, voices: u8) -> Option<u8>
 
 /// Reads a pitch. The kind is of the fault where the word is missing.
 pub fn pitch_in(words: Words<'_>, kind: TextKind) -> Result<(Pitch, Words<'_>), TextFault>
-    ensures { Gives (λ x. (x.0, words_of x.1)) result (place_in (pitch_place kind) (words_of words.entry)) }
+    ensures { Gives (λ x. (x.0, words_of x.1)) result
+        (place_in (pitch_place kind) (words_of words.entry)) }
 {
     let (word, words) = words.next(kind)?;
     match parse_pitch(word.text) {
@@ -122,8 +127,8 @@ fn cantus_line(
     species_voice: u8,
     bars: u8,
 ) -> Result<((u8, AnyList<'static, Pitch>), Lines<'_>), TextFault>
-    ensures { Gives (λ x. (x.0, lines_of x.1)) result
-        (line_in Head Head (codes "cantus") (cantus_row voices species_voice bars) (lines_of text.entry)) }
+    ensures { Gives (λ x. (x.0, lines_of x.1)) result (line_in Head Head (codes "cantus")
+        (cantus_row voices species_voice bars) (lines_of text.entry)) }
 {
     let (words, text) = text.headed(TextKind::Head, TextKind::Head, b"cantus")?;
     let (word, words) = words.next(TextKind::Cantus)?;
@@ -147,7 +152,8 @@ fn parts_in(
     requires most_voices { voices ≤ 4 }
     requires fewest_bars { 3 ≤ bars }
     requires most_bars { bars ≤ 24 }
-    ensures value { Gives (λ x. (x.0, lines_of x.1)) result (table_in (parts_table mode voices bars) (lines_of text.entry)) }
+    ensures value { Gives (λ x. (x.0, lines_of x.1)) result (table_in (parts_table mode voices bars)
+        (lines_of text.entry)) }
     ensures fewest_voices { IfOk result (λ x. 2 ≤ x.0.voices) }
     ensures most_voices { IfOk result (λ x. x.0.voices ≤ 4) }
     ensures fewest_bars { IfOk result (λ x. 3 ≤ x.0.bars) }
@@ -175,7 +181,8 @@ fn parts_in(
 /// Reads the lines behind the version and before the ranges.
 #[tactic(auto, unfolding(text_lines::specs::Tables::table_in))]
 pub fn head_in(alloc: Global, text: Lines<'_>) -> Result<(Exercise<'static>, Lines<'_>), TextFault>
-    ensures value { Gives (λ x. (x.0, lines_of x.1)) result (table_in head_table (lines_of text.entry)) }
+    ensures value { Gives (λ x. (x.0, lines_of x.1)) result
+        (table_in head_table (lines_of text.entry)) }
     ensures fewest_voices { IfOk result (λ x. 2 ≤ x.0.voices) }
     ensures most_voices { IfOk result (λ x. x.0.voices ≤ 4) }
     ensures fewest_bars { IfOk result (λ x. 3 ≤ x.0.bars) }

@@ -1,4 +1,5 @@
-//! The items of a bar, as they are written. The cells of a setting are written as if they were given.
+//! The items of a bar, as they are written. The cells of a setting are written as if they were
+//! given.
 
 ghost use Rattle.std.specs.Prelude.{◌≡◌, ◌<◌, ◌≤◌, ◌++◌, ◌∷◌, [], OnOk, string_bytes, map, length, drop, slice_index_or};
 ghost use Rattle.fux_grid.specs.declared.given.Given.TheVariants.{Blank};
@@ -27,7 +28,8 @@ fn first_length(cells: &[Given]) -> usize
     requires { 0 < length cells.now }
     ensures least { 1 ≤ result }
     ensures most { result ≤ length cells.now }
-    ensures items { given_items cells.now ≡ (slice_index_or cells.now 0 Blank, result) ∷ given_items (drop result cells.now) }
+    ensures items { given_items cells.now ≡ (slice_index_or cells.now 0 Blank, result)
+        ∷ given_items (drop result cells.now) }
 {
     let mut count = 1;
     while count < cells.len() && goes_on(cells[0], cells[count]) {
@@ -38,7 +40,8 @@ fn first_length(cells: &[Given]) -> usize
 
 /// Appends a space and the word of an item.
 fn put_item(out: &mut String, given: Given, count: usize) -> Result<(), Memory>
-    ensures { OnOk result (string_bytes out.new ≡ string_bytes out.old ++ spaced (given_word (given, count) ∷ [])) }
+    ensures { OnOk result (string_bytes out.new ≡ string_bytes out.old
+        ++ spaced (given_word (given, count) ∷ [])) }
 {
     match given {
         Given::Blank => write!(out, " ?:{count}")?,
@@ -51,7 +54,8 @@ fn put_item(out: &mut String, given: Given, count: usize) -> Result<(), Memory>
 
 /// Appends the words of a bar's cells, with a space before each.
 pub fn put_items(out: &mut String, cells: &[Given]) -> Result<(), Memory>
-    ensures { OnOk result (string_bytes out.new ≡ string_bytes out.old ++ spaced (map given_word (given_items cells.now))) }
+    ensures { OnOk result (string_bytes out.new ≡ string_bytes out.old
+        ++ spaced (map given_word (given_items cells.now))) }
 {
     let mut first = 0;
     while first < cells.len() {

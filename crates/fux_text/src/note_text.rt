@@ -41,7 +41,8 @@ fn put_setting(out: &mut String, ex: &Exercise, score: &Score) -> Result<(), Mem
 pub fn write(alloc: Global, ex: &Exercise, score: Option<&Score>) -> Result<String, Memory>
     requires valid { IsValid ex.now }
     requires complete { ForSome score (λ given. IsComplete ex.now given.now) }
-    ensures { IfOk result (λ text. string_bytes text ≡ note_text ex.now (option_copied score.entry)) }
+    ensures { IfOk result (λ text. string_bytes text ≡ note_text ex.now
+        (option_copied score.entry)) }
 {
     let mut out = String::new(alloc);
     put_exercise(&mut out, ex)?;

@@ -24,8 +24,8 @@ fn has_line(lines: &[RangeLine], v: u8) -> bool
     lines.iter().any(|line| line.voice == v)
 }
 
-/// Whether a range line can't go on so behind its voice: a voice's first line has LOW and HIGH alone, and each later one
-/// has bars, too.
+/// Whether a range line can't go on so behind its voice: a voice's first line has LOW and HIGH
+/// alone, and each later one has bars, too.
 #[tactic(auto, unfolding(crate::specs::Ranges::misfits))]
 fn misfits(words: Words<'_>, later: bool) -> bool
     ensures { result ≡ misfits later (words_of words.entry) }
@@ -49,7 +49,8 @@ fn voice_in<'a>(
     ex: &Exercise,
     before: &[RangeLine],
 ) -> Result<(u8, Words<'a>), TextFault>
-    ensures { Gives (λ x. (x.0, words_of x.1)) result (place_in (voice_place ex.now before.now) (words_of words.entry)) }
+    ensures { Gives (λ x. (x.0, words_of x.1)) result (place_in (voice_place ex.now before.now)
+        (words_of words.entry)) }
 {
     let (word, words) = words.next(TextKind::Range)?;
     let Some(voice) = other_voice(word.text, ex.cantus_voice, ex.voices) else {
@@ -63,7 +64,8 @@ fn voice_in<'a>(
 
 /// Reads HIGH, whose key isn't below that of LOW.
 fn high_in(words: Words<'_>, low: Pitch) -> Result<(Pitch, Words<'_>), TextFault>
-    ensures { Gives (λ x. (x.0, words_of x.1)) result (place_in (high_place low) (words_of words.entry)) }
+    ensures { Gives (λ x. (x.0, words_of x.1)) result
+        (place_in (high_place low) (words_of words.entry)) }
 {
     let (word, words) = words.next(TextKind::Range)?;
     let Some(high) = parse_pitch(word.text) else {
@@ -139,8 +141,8 @@ fn ranges_on<'a>(
     text: Lines<'a>,
     ex: &Exercise,
 ) -> Result<(Vec<RangeLine>, Lines<'a>), TextFault>
-    ensures { Gives (λ x. (x.0.items, lines_of x.1)) result
-        (many_in (range_lines_of ex.now) [] (lines_of text.entry).after (lines_of text.entry).lines) }
+    ensures { Gives (λ x. (x.0.items, lines_of x.1)) result (many_in (range_lines_of ex.now) []
+        (lines_of text.entry).after (lines_of text.entry).lines) }
 {
     let mut ranges = Vec::new(alloc);
     let mut rest = text;
@@ -167,7 +169,8 @@ pub fn ranges_in<'a>(
     text: Lines<'a>,
     ex: &Exercise,
 ) -> Result<(Vec<RangeLine>, Lines<'a>), TextFault>
-    ensures { Gives (λ x. (x.0.items, lines_of x.1)) result (table_in (ranges_table ex.now) (lines_of text.entry)) }
+    ensures { Gives (λ x. (x.0.items, lines_of x.1)) result (table_in (ranges_table ex.now)
+        (lines_of text.entry)) }
 {
     let (ranges, text) = ranges_on(alloc, text, ex)?;
     if !all_ranged(ex, &ranges) {

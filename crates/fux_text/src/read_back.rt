@@ -16,13 +16,15 @@ pub fn words_read_back()
     ensures modes { (m : Mode) → mode_named (mode_name m) ≡ Some m }
     ensures pitches { (p : Pitch) → pitch_named (name_of p) ≡ Some p }
     ensures numbers { (n : ℕ) → n ≤ 9999999 → number_of (decimal n) ≡ Some n }
-    ensures rules { (rule : ℕ) → 4 ≤ rule → rule ≤ 26 → rule_named (codes "S" ++ decimal rule) ≡ Some rule }
+    ensures rules { (rule : ℕ) → 4 ≤ rule → rule ≤ 26 → rule_named (codes "S" ++ decimal rule)
+        ≡ Some rule }
     ensures sets { SetsReadBack }
 {}
 
-/// A law, and nothing to run: a text is read as an exercise just where its lines have the exercise's words, so it is of one
-/// exercise at most; and a fault is told just where it is the text's first one, so there is one at most, and none where the
-/// text is of an exercise. Lines of a setting alone are read so, too.
+/// A law, and nothing to run: a text is read as an exercise just where its lines have the
+/// exercise's words, so it is of one exercise at most; and a fault is told just where it is the
+/// text's first one, so there is one at most, and none where the text is of an exercise. Lines of a
+/// setting alone are read so, too.
 pub fn texts_are_read()
     ensures texts { NoteTextsAreRead }
     ensures each { NoteTextsOrFaults }
@@ -34,8 +36,8 @@ pub fn texts_are_read()
     ensures sing_faults { SingFaultsAreRead }
 {}
 
-/// A law, and nothing to run: the text that [`crate::write`] writes is a note text of its exercise with its setting, and
-/// [`crate::sing_line`]'s lines are those of their setting.
+/// A law, and nothing to run: the text that [`crate::write`] writes is a note text of its exercise
+/// with its setting, and [`crate::sing_line`]'s lines are those of their setting.
 pub fn text_reads_back()
     ensures note_text { NoteTextReadsBack }
     ensures sing_lines { SingLinesReadBack }

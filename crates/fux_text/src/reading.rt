@@ -45,7 +45,8 @@ pub fn read(alloc: Global, bytes: &[u8]) -> Result<Exercise<'static>, TextFault>
     ensures ok { IfOk result (λ ex. IsTextOf bytes.now ex × IsValid ex) }
     ensures fault { TellsOnly result (HasFault bytes.now) }
 
-    // A note text is read, and a text with a fault is answered by that fault, unless memory runs out.
+    // A note text is read, and a text with a fault is answered by that fault, unless memory runs
+    // out.
     ensures only { (ex : Exercise) → IsTextOf bytes.now ex → Finds result ex }
     ensures first { TellsEach result (HasFault bytes.now) }
 {
@@ -63,16 +64,19 @@ fn setting_alone(alloc: Global, ex: &Exercise, lines: &[u8]) -> Result<Score, Te
     Ok(score)
 }
 
-/// The setting of an exercise in a text of its `sing` lines alone, one for each free voice from the lowest, or the first
-/// fault of the text.
+/// The setting of an exercise in a text of its `sing` lines alone, one for each free voice from the
+/// lowest, or the first fault of the text.
 pub fn read_sing(alloc: Global, ex: &Exercise, lines: &[u8]) -> Result<Score, TextFault>
     requires { IsValid ex.now }
 
-    // What is read is a setting with the cantus and has these lines, and a fault is their first one.
-    ensures ok { IfOk result (λ score. AreSingLinesOf ex.now lines.now score × IsGiven ex.now score) }
+    // What is read is a setting with the cantus and has these lines, and a fault is their first
+    // one.
+    ensures ok { IfOk result (λ score. AreSingLinesOf ex.now lines.now score
+        × IsGiven ex.now score) }
     ensures fault { TellsOnly result (HasSingFault ex.now lines.now) }
 
-    // Lines of a setting are read, and lines with a fault are answered by that fault, unless memory runs out.
+    // Lines of a setting are read, and lines with a fault are answered by that fault, unless memory
+    // runs out.
     ensures only { (score : Grid) → AreSingLinesOf ex.now lines.now score → Finds result score }
     ensures first { TellsEach result (HasSingFault ex.now lines.now) }
 {

@@ -89,7 +89,8 @@ fn parse_voices(word: &[u8], voices: u8) -> Option<Option<VoiceSet>>
 
 /// Reads a rule.
 fn rule_in(words: Words<'_>) -> Result<(u8, Words<'_>), TextFault>
-    ensures { Gives (λ x. (x.0, words_of x.1)) result (place_in (named_place Word Word rule_named) (words_of words.entry)) }
+    ensures { Gives (λ x. (x.0, words_of x.1)) result (place_in (named_place Word Word rule_named)
+        (words_of words.entry)) }
 {
     let (word, words) = words.next(TextKind::Word)?;
     match parse_rule(word.text) {
@@ -158,8 +159,8 @@ pub fn relaxes_in<'a>(
     ex: &Exercise,
 ) -> Result<(Vec<Relax>, Lines<'a>), TextFault>
     requires { ex.now.voices ≤ 4 }
-    ensures { Gives (λ x. (x.0.items, lines_of x.1)) result
-        (many_in (relax_lines_of ex.now) [] (lines_of text.entry).after (lines_of text.entry).lines) }
+    ensures { Gives (λ x. (x.0.items, lines_of x.1)) result (many_in (relax_lines_of ex.now) []
+        (lines_of text.entry).after (lines_of text.entry).lines) }
 {
     let mut lines = Vec::new(alloc);
     let mut rest = text;

@@ -39,7 +39,8 @@ fn voice_in<'a>(
     asked: Asked,
 ) -> Result<(List<Cell>, Lines<'a>), TextFault>
     requires { 1 ≤ ex.now.bars }
-    ensures { Gives (λ x. (x.0, lines_of x.1)) result (table_in (voice_table (asks asked ex.now) ex.now v) (lines_of text.entry)) }
+    ensures { Gives (λ x. (x.0, lines_of x.1)) result
+        (table_in (voice_table (asks asked ex.now) ex.now v) (lines_of text.entry)) }
 {
     if v == ex.cantus_voice {
         let cells = cantus_cells(alloc, ex.cantus.as_slice())?;
@@ -57,7 +58,8 @@ fn voices_in<'a>(
 ) -> Result<(Vec<List<Cell>>, Lines<'a>), TextFault>
     requires { 1 ≤ ex.now.bars }
     ensures { Gives (λ x. (x.0.items, lines_of x.1)) result
-        (table_in (voices_table (asks asked ex.now) ex.now (range_with_len 0 ex.now.voices) []) (lines_of text.entry)) }
+        (table_in (voices_table (asks asked ex.now) ex.now (range_with_len 0 ex.now.voices) [])
+        (lines_of text.entry)) }
 {
     let mut lines = Vec::new(alloc);
     let mut rest = text;
@@ -81,7 +83,8 @@ pub fn sung_score<'a>(
     requires most { ex.now.voices ≤ 4 }
     requires some { 1 ≤ ex.now.bars }
     requires bars { ex.now.bars ≤ 24 }
-    ensures { Gives (λ x. (x.0, lines_of x.1)) result (table_in (sung_table (asks asked ex.now) ex.now) (lines_of text.entry)) }
+    ensures { Gives (λ x. (x.0, lines_of x.1)) result
+        (table_in (sung_table (asks asked ex.now) ex.now) (lines_of text.entry)) }
 {
     let (lines, text) = voices_in(alloc, text, ex, asked)?;
     text.done(TextKind::Head)?;
@@ -101,7 +104,8 @@ pub fn setting_in<'a>(
     requires most { ex.now.voices ≤ 4 }
     requires some { 1 ≤ ex.now.bars }
     requires bars { ex.now.bars ≤ 24 }
-    ensures { Gives (λ x. (x.0, lines_of x.1)) result (table_in (setting_table (asks asked ex.now) ex.now) (lines_of text.entry)) }
+    ensures { Gives (λ x. (x.0, lines_of x.1)) result
+        (table_in (setting_table (asks asked ex.now) ex.now) (lines_of text.entry)) }
 {
     if !text.begins(b"sing") {
         text.done(TextKind::Head)?;

@@ -83,7 +83,8 @@ fn latest(cells: &[Cell]) -> Cell
     }
 }
 
-/// An item behind so many bars and these cells: its first cell, and how many it has; or what is wrong with it.
+/// An item behind so many bars and these cells: its first cell, and how many it has; or what is
+/// wrong with it.
 #[tactic(auto, unfolding(crate::specs::Sing::item_said))]
 fn item_said(cells: &[Cell], bar: u8, text: &[u8]) -> Result<(Cell, u8), TextKind>
     ensures value { result ≡ item_said bar cells.now text.now }
@@ -133,7 +134,8 @@ fn is_full(cells: &[Cell], bar: u8) -> bool
     cells.len() == 8 * usize::from(bar) + 8
 }
 
-/// A bar line behind so many bars and these cells: how many bars end by it, or what is wrong with it.
+/// A bar line behind so many bars and these cells: how many bars end by it, or what is wrong with
+/// it.
 #[tactic(auto, unfolding(crate::specs::Sing::bar_line_said))]
 fn bar_line_said(cells: &[Cell], bars: u8, bar: u8) -> Result<u8, TextKind>
     requires { bar < bars }
@@ -149,12 +151,14 @@ fn bar_line_said(cells: &[Cell], bars: u8, bar: u8) -> Result<u8, TextKind>
     Ok(bar + 1)
 }
 
-/// Reads a word of a `sing` line behind so many bars: how many bars end by it. Its cells are appended.
+/// Reads a word of a `sing` line behind so many bars: how many bars end by it. Its cells are
+/// appended.
 #[tactic(auto, unfolding(crate::specs::Sing::sung_word))]
 fn sung_word(cells: &mut Vec<Cell>, bars: u8, bar: u8, word: Word<'_>) -> Result<u8, TextFault>
     requires { bar < bars }
     ensures value { Gives (λ x. (x, cells.new.items)) result
-        (told_at (word_of word.entry) (sung_word bars (bar, cells.old.items) (word_of word.entry).text)) }
+        (told_at (word_of word.entry) (sung_word bars (bar, cells.old.items)
+        (word_of word.entry).text)) }
     ensures more { IfOk result (λ x. x < bars) }
 {
     if is_same(word.text, b"|") {
@@ -172,7 +176,8 @@ fn sung_word(cells: &mut Vec<Cell>, bars: u8, bar: u8, word: Word<'_>) -> Result
     }
 }
 
-/// Whether a `sing` line may end behind so many bars and these cells, or what is wrong with its end.
+/// Whether a `sing` line may end behind so many bars and these cells, or what is wrong with its
+/// end.
 #[tactic(auto, unfolding(crate::specs::Sing::sung_end))]
 fn sung_end(cells: &[Cell], bars: u8, bar: u8) -> Option<TextKind>
     requires { bar < bars }
@@ -190,7 +195,8 @@ fn sung_end(cells: &[Cell], bars: u8, bar: u8) -> Option<TextKind>
 /// Reads the words of a `sing` line behind its voice: its cells.
 fn sung_in(alloc: Global, words: Words<'_>, bars: u8) -> Result<Vec<Cell>, TextFault>
     requires { 1 ≤ bars }
-    ensures { Gives (λ x. x.items) result (row_in (Row.runs (sung_run bars) (0, [])) (words_of words.entry)) }
+    ensures { Gives (λ x. x.items) result (row_in (Row.runs (sung_run bars) (0, []))
+        (words_of words.entry)) }
 {
     let mut cells = Vec::new(alloc);
     let mut bar = 0;
@@ -239,8 +245,8 @@ pub fn sing_line_in<'a>(
     asked: Asked,
 ) -> Result<(List<Cell>, Lines<'a>), TextFault>
     requires { 1 ≤ ex.now.bars }
-    ensures { Gives (λ x. (x.0, lines_of x.1)) result
-        (line_in Sing Head (codes "sing") (sing_row (asks asked ex.now v) ex.now.bars v) (lines_of text.entry)) }
+    ensures { Gives (λ x. (x.0, lines_of x.1)) result (line_in Sing Head (codes "sing")
+        (sing_row (asks asked ex.now v) ex.now.bars v) (lines_of text.entry)) }
 {
     let (words, text) = text.headed(TextKind::Sing, TextKind::Head, b"sing")?;
     let cells = voice_sung(alloc, words, ex, v, asked)?;

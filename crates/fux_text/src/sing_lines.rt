@@ -42,7 +42,8 @@ fn bar_cells(score: &Score, v: u8, bar: usize) -> ArrayVec<Given, 8>
 fn put_bar(out: &mut String, score: &Score, v: u8, bar: usize) -> Result<(), Memory>
     requires first { 1 ≤ bar }
     requires whole { 8 * bar ≤ length score.now.columns }
-    ensures { OnOk result (string_bytes out.new ≡ string_bytes out.old ++ spaced (bar_words v (bar_columns score.now.columns bar))) }
+    ensures { OnOk result (string_bytes out.new ≡ string_bytes out.old
+        ++ spaced (bar_words v (bar_columns score.now.columns bar))) }
 {
     let cells = bar_cells(score, v, bar);
     put_items(out, &cells)
@@ -65,7 +66,8 @@ fn put_later_bars(out: &mut String, score: &Score, v: u8) -> Result<(), Memory>
 pub fn put_sing(out: &mut String, score: &Score, v: u8) -> Result<(), Memory>
     requires whole { length score.now.columns % 8 ≡ 0 }
     requires some { 0 < length score.now.columns }
-    ensures { OnOk result (string_bytes out.new ≡ string_bytes out.old ++ sing_text v score.now.columns) }
+    ensures { OnOk result (string_bytes out.new ≡ string_bytes out.old
+        ++ sing_text v score.now.columns) }
 {
     write!(out, "sing {v}")?;
     put_bar(out, score, v, 1)?;

@@ -1,4 +1,5 @@
-//! What no clause says: that the calls which take memory succeed, and that the clauses mean what they should.
+//! What no clause says: that the calls which take memory succeed, and that the clauses mean what
+//! they should.
 
 ghost use Rattle.std.specs.Prelude.{ℕ, None, ◌^◌, ◌<◌, ◌≤◌, ⊤};
 

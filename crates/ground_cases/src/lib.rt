@@ -1,5 +1,5 @@
-//! Worked values of the crates at the ground: pitches, columns and exercises, shelves and sinks. They stand above these
-//! crates, so that what carries the proofs is proved once.
+//! Worked values of the crates at the ground: pitches, columns and exercises, shelves and sinks.
+//! They stand above these crates, so that what carries the proofs is proved once.
 #![tactic(auto)]
 
 #[cfg(test)]

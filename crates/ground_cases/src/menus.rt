@@ -30,8 +30,8 @@ range 3 C3 B4";
 
 pub fn is_shared<T: Send + Sync>(_: &T) {}
 
-/// Adds a column behind a space, as the names of its pitches behind `+` where they start, and behind `-` where they are
-/// held.
+/// Adds a column behind a space, as the names of its pitches behind `+` where they start, and
+/// behind `-` where they are held.
 fn add_column(text: &mut String, column: &Column) -> Result<(), Fail> {
     text.push(' ')?;
     for cell in column.as_slice() {
@@ -53,8 +53,8 @@ fn shown(alloc: Global, columns: &[Column]) -> Result<String, Fail> {
     Ok(text)
 }
 
-/// Numbers of columns of the small exercise, and their menus, each column behind a space. In the last two bars there is C#5
-/// too.
+/// Numbers of columns of the small exercise, and their menus, each column behind a space. In the
+/// last two bars there is C#5 too.
 const MENUS: &str = "\
 column 0 =  +D4+A4 +D4+Bb4 +D4+B4 +D4+C5 +D4+D5
 column 1 =  -D4-A4 -D4-Bb4 -D4-B4 -D4-C5 -D4-D5
@@ -219,8 +219,9 @@ given 1 2 ? ? ? ? ? ? ? ?
 given 1 3 ? ? ? ? r r r r
 given 1 4 _ ? ? ? +B4 ? ? ?";
 
-/// Columns of that exercise, and their menus. Nothing is given of the second bar; a rest in the third bar and a tie from it are given, for
-/// which second species has no cell; the note that begins within the fourth bar may go on in any way.
+/// Columns of that exercise, and their menus. Nothing is given of the second bar; a rest in the
+/// third bar and a tie from it are given, for which second species has no cell; the note that
+/// begins within the fourth bar may go on in any way.
 const GIVEN_MENUS: &str = "\
 column 0 =  +D4r
 column 1 =  -D4r -D4-A4 -D4-Bb4 -D4-B4 -D4-C5
@@ -248,8 +249,9 @@ fn keeps_the_cells_that_fit_what_is_given(rt: HostRuntime) -> Result<(), Fail> {
     compare(&rt, rt.alloc(), GIVEN_MENUS, given_menu)
 }
 
-/// Given bars that fit no exercise of that cantus firmus, and one that does: of the cantus, of no bar, twice the same bar, a held pitch
-/// behind a blank, a tie within the bar, a tie at its beginning.
+/// Given bars that fit no exercise of that cantus firmus, and one that does: of the cantus, of no
+/// bar, twice the same bar, a held pitch behind a blank, a tie within the bar, a tie at its
+/// beginning.
 const GIVEN_BARS: &str = "\
 0 1 ? ? ? ? ? ? ? ? = refused
 1 6 ? ? ? ? ? ? ? ? = refused

@@ -8,14 +8,15 @@ use short_scores::exercise_of;
 use std::alloc::Global;
 use std::test::Fail;
 
-/// The cantus below a voice with three pitches, in first species, and one with five, in second species.
+/// The cantus below a voice with three pitches, in first species, and one with five, in second
+/// species.
 const TRIO: &str = "dorian 2 2 0
 cantus D4 E4 D4
 range 1 A4 B4
 range 2 A4 D5";
 
-/// Species of its voices, what each of the upper voices has then, and how wide the first menu is and that of the half bar. The last
-/// five are no species of its voices.
+/// Species of its voices, what each of the upper voices has then, and how wide the first menu is
+/// and that of the half bar. The last five are no species of its voices.
 const MIXED: &str = "\
 1 1 2 = species 1 2, width 18 15
 1 2 2 = species 2 2, width 24 15

@@ -37,8 +37,8 @@ fn line(alloc: Global) -> Result<Score, Fail> {
     Ok(score)
 }
 
-/// Columns of that line, with the note that sounds there, the one before it and the one behind it: where each begins, and
-/// how many columns it has.
+/// Columns of that line, with the note that sounds there, the one before it and the one behind it:
+/// where each begins, and how many columns it has.
 const NOTES: &str = "\
 column 0 = silent, at none, before none, after 2+8
 column 2 = sounds, at 2+8, before none, after 10+2
@@ -99,7 +99,8 @@ fn finds_the_notes_of_a_line(rt: HostRuntime) -> Result<(), Fail> {
     compare(&rt, rt.alloc(), SHAPES, shape_of)
 }
 
-/// The cell of a word: `r`, `default`, or a pitch behind `+` where it starts and behind `-` where it is held.
+/// The cell of a word: `r`, `default`, or a pitch behind `+` where it starts and behind `-` where
+/// it is held.
 fn cell(word: &str) -> Result<Cell, Fail> {
     if let Some(name) = word.strip_prefix('+') {
         return Ok(Cell::Start(pitch_of(name)?));
@@ -177,8 +178,9 @@ fn names_the_lowest_voice_at_fault(rt: HostRuntime) -> Result<(), Fail> {
     Ok(())
 }
 
-/// Columns in reading order: by the lowest voice, its kind of cell, its key, its degree, and then by the voice above. Each
-/// has a sign for each of them, `<` where that one is later, `=` where it is the same, `>` where it is earlier.
+/// Columns in reading order: by the lowest voice, its kind of cell, its key, its degree, and then
+/// by the voice above. Each has a sign for each of them, `<` where that one is later, `=` where it
+/// is the same, `>` where it is earlier.
 const ASCENDING: &str = "\
 r +D4 = =<<<<<
 -C#4 r = >=<<<<

@@ -173,8 +173,8 @@ fn intervals_are_reduced(rt: HostRuntime) -> Result<(), Fail> {
     compare(&rt, rt.alloc(), REDUCED, reduced)
 }
 
-/// What an interval is: `p` a perfect consonance, `i` an imperfect one, `f` consonant but with the lowest voice, `.` a
-/// dissonance, and `?` where it would be two of these.
+/// What an interval is: `p` a perfect consonance, `i` an imperfect one, `f` consonant but with the
+/// lowest voice, `.` a dissonance, and `?` where it would be two of these.
 fn class_of(degrees: i16, semitones: i16) -> char
     requires least_degrees { negsuc 127 ≤ℤ degrees }
     requires most_degrees { degrees ≤ℤ pos 127 }
@@ -192,7 +192,8 @@ fn class_of(degrees: i16, semitones: i16) -> char
     }
 }
 
-/// The same of the interval with none, one and two octaves more, and of each of these downwards; `?` where they differ.
+/// The same of the interval with none, one and two octaves more, and of each of these downwards;
+/// `?` where they differ.
 fn class_of_all(degrees: u8, semitones: u8) -> char
     requires degrees { degrees < 8 }
     requires semitones { semitones < 16 }
@@ -266,7 +267,8 @@ fn final_of(alloc: Global, case: &str) -> Result<String, Fail> {
     Ok(format!(in alloc; "final {last}, leading {before} altered by {alter}")?)
 }
 
-/// Modes and bars of eight, and the pitches of the gamut from C4 on, of all that are sharp, flat or neither.
+/// Modes and bars of eight, and the pitches of the gamut from C4 on, of all that are sharp, flat or
+/// neither.
 const GAMUTS: &str = "\
 dorian in the bars 1 to 6 = C4 D4 E4 F4 G4 A4 Bb4 B4
 dorian in the bars 7 to 8 = C4 C#4 D4 E4 F4 G4 A4 Bb4 B4

@@ -1,7 +1,7 @@
 //! One loop for all tables.
 //!
-//! What costs most in the proof of a test is a long function in which something large is alive, as an exercise is. So one
-//! function makes it, and another one works on a reference to it.
+//! What costs most in the proof of a test is a long function in which something large is alive, as
+//! an exercise is. So one function makes it, and another one works on a reference to it.
 
 use std::alloc::Global;
 use std::process::Abort;
@@ -24,8 +24,8 @@ fn agree(rt: &impl Abort, alloc: Global, line: &str, case: &str, found: &str) ->
     Ok(())
 }
 
-/// Goes through a table, each line of which has a case and its answer, with ` = ` between them, and ends the test at the
-/// first case that is answered otherwise.
+/// Goes through a table, each line of which has a case and its answer, with ` = ` between them, and
+/// ends the test at the first case that is answered otherwise.
 pub fn compare<F: FnMut(Global, &str) -> Result<String, Fail>>(
     rt: &impl Abort,
     alloc: Global,

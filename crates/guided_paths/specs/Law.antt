@@ -1,4 +1,5 @@
--- Each step of a path is an edge into the next row (`rows_are_mapped`), so the numbers of the rows are floors (`numbers_are_floors`).
+-- Each step of a path is an edge into the next row (`rows_are_mapped`), so the numbers of the rows
+-- are floors (`numbers_are_floors`).
 use Rattle.std.specs.Prelude.{◌≡◌, ℕ, ◌+◌, ◌-◌, ◌<◌, ◌≤◌, ◌++◌, [], ◌∷◌, List, Bool, true, false, Option, Some, None, IsSome, option_map, option_and_then, if◌then◌else◌, length}
 use Rattle.std.proofs.Common.{arith, refl, sym, ap, ◌∙◌, length-append}
 use Rattle.std.proofs.lemmas.Bool.Decides.{nat_tests}

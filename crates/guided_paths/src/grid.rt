@@ -1,4 +1,5 @@
-//! A worked example of a space to search: paths that fall through a grid, from each row to a column next to the last.
+//! A worked example of a space to search: paths that fall through a grid, from each row to a column
+//! next to the last.
 
 ghost use Rattle.std.specs.Prelude.{◌≤◌, length};
 
@@ -14,8 +15,8 @@ pub struct Grid {
     ghost few: { length costs.items ≤ 192 },
 }
 
-/// Where a path has come to: how many rows it has passed, the leftmost and the rightmost column that it may enter next,
-/// and what it has cost.
+/// Where a path has come to: how many rows it has passed, the leftmost and the rightmost column
+/// that it may enter next, and what it has cost.
 #[derive(Clone, Copy)]
 pub struct Spot {
     pub row: usize,
@@ -217,7 +218,8 @@ mod tests {
             (dead_first, By::Depth, 2, Want::Found(&[1, 0], 3)),
             (dead_end, By::Depth, 5, Want::Found(&[1, 2], 2)),
             (&[], By::Depth, 0, Want::Found(&[], 0)),
-            // by the front: 27 nodes hang from one of at most 8, 22 from one of at most 7 and 3 from the root
+            // by the front: 27 nodes hang from one of at most 8, 22 from one of at most 7 and 3
+            // from the root
             (known, By::Front, 27, Want::Found(&[1, 1, 0], 13)),
             (known, By::Front, 26, Want::SpentAt(8)),
             (known, By::Front, 21, Want::SpentAt(7)),

@@ -1,5 +1,5 @@
-//! A worked example of a space to search, and of a guide to it: paths that fall through a grid, guided by a graph that forgets in which column
-//! they are.
+//! A worked example of a space to search, and of a guide to it: paths that fall through a grid,
+//! guided by a graph that forgets in which column they are.
 #![tactic(auto)]
 
 ghost use Rattle.std.specs.Prelude.{◌≡◌, ◌≤◌, ◌*◌, ◌^◌, IfOk, length, option_map};
@@ -19,8 +19,8 @@ pub use priced::{PricedGrid, Reach};
 use std::alloc::Global;
 use tree_search::Space;
 
-/// The rows of a grid as a graph. A node is how many rows are left, and has an edge for each column that may be entered in the next row,
-/// wherever it lies.
+/// The rows of a grid as a graph. A node is how many rows are left, and has an edge for each column
+/// that may be entered in the next row, wherever it lies.
 #[derive(Clone, Copy)]
 pub struct Rows<'a> {
     pub grid: &'a Grid,
@@ -174,8 +174,8 @@ mod tests {
             [None, None, Some(1)],
         ];
         let table = [
-            // from the rows on at least 12, 11 and 7 are paid; in the round at 12 two nodes are opened, 1 and 1 2, and
-            // no leaf; in the round at 13 four, 0, 1, 1 1 and the leaf
+            // from the rows on at least 12, 11 and 7 are paid; in the round at 12 two nodes are
+            // opened, 1 and 1 2, and no leaf; in the round at 13 four, 0, 1, 1 1 and the leaf
             (known, 4, Want::Found(&[1, 1, 0], 13)),
             (known, 3, Want::SpentAt(13)),
             (known, 2, Want::SpentAt(13)),
@@ -232,20 +232,22 @@ mod tests {
             [Some(100), Some(99), Some(100)],
         ];
         let table = [
-            // ten nodes are worth at most 12, none of them a leaf; in the round at 13 seven are opened, 0, 0 0, 0 1, 1,
-            // 1 0, 1 1 and the leaf. The front needs 27
+            // ten nodes are worth at most 12, none of them a leaf; in the round at 13 seven are
+            // opened, 0, 0 0, 0 1, 1, 1 0, 1 1 and the leaf. The front needs 27
             (known, 10, Want::Found(&[1, 1, 0], 13)),
             // ten are worth at most 8 and eight at most 7
             (known, 9, Want::SpentAt(8)),
             (known, 7, Want::SpentAt(7)),
-            // all nodes are worth 0, of which the front needs each: 3, 7, 17, 41, 99, 239, 577 and 1,393 in the rows
+            // all nodes are worth 0, of which the front needs each: 3, 7, 17, 41, 99, 239, 577 and
+            // 1,393 in the rows
             (level, 8, Want::Found(&[0, 0, 0, 0, 0, 0, 0, 0], 0)),
             (level, 7, Want::SpentAt(0)),
-            // the same 2,376 nodes without a leaf: no round finds one, and then the front has room for all
+            // the same 2,376 nodes without a leaf: no round finds one, and then the front has room
+            // for all
             (shut, 2_376, Want::Nothing),
             (shut, 2_375, Want::SpentAt(0)),
-            // rounds at 0 to 15, which open the first row; then from 16, 18, 22, 30, 46 and 78 on: the last one opens
-            // the first row, a leaf worth 100 and the one worth 99
+            // rounds at 0 to 15, which open the first row; then from 16, 18, 22, 30, 46 and 78 on:
+            // the last one opens the first row, a leaf worth 100 and the one worth 99
             (steep, 5, Want::Found(&[0, 1], 99)),
             (steep, 4, Want::SpentAt(78)),
             (steep, 3, Want::SpentAt(78)),
@@ -281,15 +283,17 @@ mod tests {
             [None, None, Some(1)],
         ];
         let table = [
-            // the sums are exact: 13 is paid by [1, 1, 0] and [1, 2, 1]. In the round at 13 three nodes are opened, 1, 1 1 and the leaf;
-            // the front needs 11, which hang from one of at most 13
+            // the sums are exact: 13 is paid by [1, 1, 0] and [1, 2, 1]. In the round at 13 three
+            // nodes are opened, 1, 1 1 and the leaf; the front needs 11, which hang from one of at
+            // most 13
             (known, 3, Want::Found(&[1, 1, 0], 13)),
             (known, 2, Want::SpentAt(13)),
             // the best path never enters the leftmost column; the front needs 5
             (falling, 2, Want::Found(&[2, 2], 0)),
             (falling, 1, Want::SpentAt(0)),
             (shut, 0, Want::Nothing),
-            // no way leads on from the leftmost column of the first row, so its node is dead; the front needs 4
+            // no way leads on from the leftmost column of the first row, so its node is dead; the
+            // front needs 4
             (dead_end, 2, Want::Found(&[1, 2], 2)),
             (dead_end, 1, Want::SpentAt(2)),
         ];

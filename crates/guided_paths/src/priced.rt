@@ -1,4 +1,5 @@
-//! The same grids, whose steps are charged by two cases: paths that enter the leftmost column, and paths that never do.
+//! The same grids, whose steps are charged by two cases: paths that enter the leftmost column, and
+//! paths that never do.
 ghost use Rattle.std.specs.Prelude.{◌<◌, length};
 
 use crate::grid::{COLUMNS, Grid, Spot};
@@ -11,8 +12,8 @@ pub struct Reach {
     pub high: usize,
 }
 
-/// A grid of one row or more. Paths that enter the leftmost column are charged half a unit beforehand, which is their debt; in the other case
-/// there is no step into that column.
+/// A grid of one row or more. Paths that enter the leftmost column are charged half a unit
+/// beforehand, which is their debt; in the other case there is no step into that column.
 #[derive(Drop)]
 pub struct PricedGrid<'a> {
     pub grid: &'a Grid,

@@ -1,6 +1,8 @@
-//! Cases of the rules and tolls that are read from one column or two, worked out by hand. Each begins with what is asked: rules by `S`, tolls and gauges by `Q`, or the shapes that are left of voice 1. Then comes a case as the builder
-//! reads it, and behind a line `=` what stands: a rule with its column and the bits of its voices, a toll with its column and its cost, or a
-//! gauge with its voice and its value.
+//! Cases of the rules and tolls that are read from one column or two, worked out by hand. Each
+//! begins with what is asked: rules by `S`, tolls and gauges by `Q`, or the shapes that are left of
+//! voice 1. Then comes a case as the builder reads it, and behind a line `=` what stands: a rule
+//! with its column and the bits of its voices, a toll with its column and its cost, or a gauge with
+//! its voice and its value.
 
 pub const CASES: &str = "\
 S1 S2 S3 S12 S13 S24

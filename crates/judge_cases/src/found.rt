@@ -1,4 +1,5 @@
-//! What stands of a case, as text: one line for each rule, toll or gauge, with a line's end before it.
+//! What stands of a case, as text: one line for each rule, toll or gauge, with a line's end before
+//! it.
 
 ghost use Rattle.std.specs.Prelude.{◌≡◌, ◌<◌, ◌≤◌, length};
 ghost use Rattle.fux_grid.specs.Exercises.{IsValid, columns_in};
@@ -90,7 +91,8 @@ fn add_values(text: &mut String, number: u8, ex: &Exercise, score: &Score) -> Re
     Ok(())
 }
 
-/// Whether S3 is settled for voice 1 in the first bar and broken, and the bits of the shapes that its cells so far begin.
+/// Whether S3 is settled for voice 1 in the first bar and broken, and the bits of the shapes that
+/// its cells so far begin.
 fn add_shapes(text: &mut String, ex: &Exercise, score: &Score) -> Result<(), Fail>
     requires valid { IsValid ex.now }
     requires voices { score.now.voices ≡ ex.now.voices }

@@ -1,7 +1,8 @@
 //! Settings in four voices, beside which `plain` tries the judge.
 
-/// Each setting with what is paid of it, where that is asked. The comment has the rules and tolls of which the rows
-/// above lack a voice, two voices or a species; at the end stand settings that break S3.
+/// Each setting with what is paid of it, where that is asked. The comment has the rules and tolls
+/// of which the rows above lack a voice, two voices or a species; at the end stand settings that
+/// break S3.
 pub const JUDGED: &str = "\
 ; S4-S10 S12-S17 S19-S22 S24-S25; Q2-Q4 Q6-Q13 Q17-Q19
 lydian 5 0 2

@@ -39,8 +39,8 @@ Q9: D4 F4, D4 B4
 Q10: A4 D4
 Q13: D4 G4, D4 G4 F4, D4 F4 G4, G4 D4 E4, D4 G4 F4 E4";
 
-/// Compares what stands at the last note of a line with what should, where one voice sings it, or for 4 all do: nothing for the cantus, and of S5 nothing but
-/// for the voice of the second species.
+/// Compares what stands at the last note of a line with what should, where one voice sings it, or
+/// for 4 all do: nothing for the cantus, and of S5 nothing but for the voice of the second species.
 fn compare(
     rt: &impl Abort,
     alloc: Global,

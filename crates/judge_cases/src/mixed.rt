@@ -1,5 +1,5 @@
-//! Settings of mixed exercises, judged column by column beside the plain reading, and their breaks of S27 and S28. S15 is never broken
-//! in them.
+//! Settings of mixed exercises, judged column by column beside the plain reading, and their breaks
+//! of S27 and S28. S15 is never broken in them.
 
 use crate::mixed_tables::{JUDGED, WORKED};
 use crate::parts::parts;
@@ -40,7 +40,8 @@ fn shown(alloc: Global, marks: &[Mark]) -> Result<String, Fail> {
     Ok(text)
 }
 
-/// Each setting of a table is judged as the whole score, and has its marks. Where it breaks S3 no penalty is asked.
+/// Each setting of a table is judged as the whole score, and has its marks. Where it breaks S3 no
+/// penalty is asked.
 fn judge_all(rt: &impl Abort, alloc: Global, table: &str) -> Result<(), Fail> {
     let sheet = default_sheet();
     for text in table.split("\n\n") {

@@ -1,5 +1,5 @@
-//! Cases of exercises in which each voice has a species of its own, worked out by hand, in the form of the other tables. A line `mixed` has
-//! the species of the voices.
+//! Cases of exercises in which each voice has a species of its own, worked out by hand, in the form
+//! of the other tables. A line `mixed` has the species of the voices.
 
 pub const CASES: &str = "\
 Q15

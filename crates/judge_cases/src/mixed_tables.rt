@@ -1,5 +1,5 @@
-//! Settings of mixed exercises, with their breaks of S27 and S28: bar, slot, rule, and the bits of the voices. A line `mixed` has the
-//! species of the voices.
+//! Settings of mixed exercises, with their breaks of S27 and S28: bar, slot, rule, and the bits of
+//! the voices. A line `mixed` has the species of the voices.
 
 /// Settings that were made for one sentence of the two rules each.
 pub const WORKED: &str = "\
@@ -144,10 +144,10 @@ F4:4 A4:4 A4:8 D5:3 E5:5
 3 0 S28 6
 3 3 S27 5";
 
-/// Settings in two, three and four voices, with the cantus firmus in each of them; their breaks were found by another reading of the two
-/// sentences. Of each two species that can clash they have a break of
-/// S27, an excuse of either voice and of both, where the one starts a note, where the other does and where both do; and of S28 each slot and each two
-/// species that shapes leave.
+/// Settings in two, three and four voices, with the cantus firmus in each of them; their breaks
+/// were found by another reading of the two sentences. Of each two species that can clash they have
+/// a break of S27, an excuse of either voice and of both, where the one starts a note, where the
+/// other does and where both do; and of S28 each slot and each two species that shapes leave.
 pub const JUDGED: &str = "\
 ; the cantus in voice 0
 phrygian 3 1 0

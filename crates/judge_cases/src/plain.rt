@@ -1,11 +1,14 @@
-//! Settings that are judged column by column, beside a plain reading of every rule and toll over the whole score.
+//! Settings that are judged column by column, beside a plain reading of every rule and toll over
+//! the whole score.
 //!
-//! For two, three and four voices alike, the tables have each species in each voice, and the cantus firmus in each voice
-//! with the species in each of the others. Of each rule from S4 on they have, for each voice or each two that it may
-//! stand for, a strict break with no other strict one of that rule settled by the same column, and a relaxed one with a
-//! price; of S1 to S3 a strict one, and of each toll a cost. Where the two voices play different parts, as in S15 and in
-//! S18 to S21, that is so for either order of them. S21 can't stand for two voices above voice 0, since neither is the
-//! lowest one where a bar begins with a tie, and S3 is tried in the voice of the species: no menu breaks it elsewhere.
+//! For two, three and four voices alike, the tables have each species in each voice, and the cantus
+//! firmus in each voice with the species in each of the others. Of each rule from S4 on they have,
+//! for each voice or each two that it may stand for, a strict break with no other strict one of
+//! that rule settled by the same column, and a relaxed one with a price; of S1 to S3 a strict one,
+//! and of each toll a cost. Where the two voices play different parts, as in S15 and in S18 to S21,
+//! that is so for either order of them. S21 can't stand for two voices above voice 0, since neither
+//! is the lowest one where a bar begins with a tie, and S3 is tried in the voice of the species: no
+//! menu breaks it elsewhere.
 
 ghost use Rattle.fux_grid.specs.Exercises.{IsValid};
 
@@ -24,8 +27,9 @@ use std::test::Fail;
 /// The rules and tolls that are read among the newest columns.
 const LATE_RULES: [u8; 11] = [3, 15, 18, 19, 20, 21, 22, 23, 25, 27, 28];
 
-/// Compares the judge's verdict of a longer score's last column with the plain reading, and answers the rules that are
-/// newly broken. Where a break of S3 is settled before it, the judge promises nothing of late rules and of costs, so it isn't asked.
+/// Compares the judge's verdict of a longer score's last column with the plain reading, and answers
+/// the rules that are newly broken. Where a break of S3 is settled before it, the judge promises
+/// nothing of late rules and of costs, so it isn't asked.
 fn compare(
     rt: &impl Abort,
     ex: &Exercise,
@@ -55,7 +59,8 @@ fn compare(
     broken
 }
 
-/// Compares what the judge found and charged of a score, column by column, with the plain reading of all of it.
+/// Compares what the judge found and charged of a score, column by column, with the plain reading
+/// of all of it.
 fn compare_sums(
     rt: &impl Abort,
     ex: &Exercise,
@@ -81,8 +86,8 @@ fn compare_sums(
     );
 }
 
-/// Judges a score column by column, each as the plain reading of the scores without it and with it does, and answers what
-/// is paid of it and what its lines cost; nothing where it breaks S3.
+/// Judges a score column by column, each as the plain reading of the scores without it and with it
+/// does, and answers what is paid of it and what its lines cost; nothing where it breaks S3.
 pub fn walk(
     rt: &impl Abort,
     alloc: Global,

@@ -35,8 +35,8 @@ fn after(rt: &impl Abort, ex: &Exercise, score: &Score, columns: usize) -> State
     state
 }
 
-/// How many of the lowest voices prune the last column of a score, by what they break or by what they cost; whether it is dead by its sound
-/// alone, and what a step says.
+/// How many of the lowest voices prune the last column of a score, by what they break or by what
+/// they cost; whether it is dead by its sound alone, and what a step says.
 fn compare(
     rt: &impl Abort,
     alloc: Global,

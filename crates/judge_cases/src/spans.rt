@@ -1,4 +1,5 @@
-//! Cases of the rules, tolls and gauges that are read over several columns, worked out by hand, in the form of the other table.
+//! Cases of the rules, tolls and gauges that are read over several columns, worked out by hand, in
+//! the form of the other table.
 
 pub const CASES: &str = "\
 S15 S18 S19 S20 S21 S22 S23 S25

@@ -1,5 +1,5 @@
-//! Cases of marks, of pruned columns and of judged settings, in the form that the builder reads: behind a line of comment, and
-//! what stands comes behind a line `=`.
+//! Cases of marks, of pruned columns and of judged settings, in the form that the builder reads:
+//! behind a line of comment, and what stands comes behind a line `=`.
 
 /// Settings and their marks: bar, slot, rule, and the bits of the voices.
 pub const SETTINGS: &str = "\
@@ -471,8 +471,8 @@ cantus D4 D4 B#3 C4 D4
 4 0 S4 1
 5 0 S33 1";
 
-/// Whole bars before a column of four voices: how many of the lowest voices make it dead by their moves, and whether its sound alone does;
-/// or how many cost the limit.
+/// Whole bars before a column of four voices: how many of the lowest voices make it dead by their
+/// moves, and whether its sound alone does; or how many cost the limit.
 pub const COLUMNS: &str = "\
 ;
 dorian 1 1 0

@@ -1,7 +1,8 @@
 //! Settings in three voices, beside which `plain` tries the judge.
 
-/// Each setting with what is paid of it, where that is asked. The comment has the rules and tolls of which the rows
-/// above lack a voice, two voices or a species; at the end stand settings that break S3.
+/// Each setting with what is paid of it, where that is asked. The comment has the rules and tolls
+/// of which the rows above lack a voice, two voices or a species; at the end stand settings that
+/// break S3.
 pub const JUDGED: &str = "\
 ; S4-S7 S9-S10 S12-S15 S19-S22 S24-S25; Q2-Q13 Q17-Q19
 aeolian 5 0 1

@@ -1,7 +1,8 @@
 //! Settings in two voices, beside which `plain` tries the judge.
 
-/// Each setting with what is paid of it, where that is asked. The comment has the rules and tolls of which the rows
-/// above lack a voice, two voices or a species; at the end stand settings that break S3.
+/// Each setting with what is paid of it, where that is asked. The comment has the rules and tolls
+/// of which the rows above lack a voice, two voices or a species; at the end stand settings that
+/// break S3.
 pub const JUDGED: &str = "\
 ; S4-S5 S7-S8 S10 S12-S15 S17 S19-S22 S24-S26; Q2 Q6-Q11 Q13 Q17 Q19
 mixolydian 5 0 1

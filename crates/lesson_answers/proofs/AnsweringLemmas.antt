@@ -1,4 +1,5 @@
--- Nothing differs just where an answer answers its lesson (`answers_where_none`, `none_where_answers`).
+-- Nothing differs just where an answer answers its lesson (`answers_where_none`,
+-- `none_where_answers`).
 use Rattle.std.proofs.Common.{◌≡◌, ℕ, zero, suc, ◌+◌, ◌-◌, ◌*◌, ◌/◌, ◌%◌, ◌<◌, ◌≤◌, ◌==◌, ◌&&◌, min, Bool, true, false, not, List, [], ◌∷◌, ◌++◌, length, map, slice_get, slice_index_or, Option, None, Some, inl, inr, refl, ap, sym, subst, ◌∙◌, arith, eq-eqb, eqb-true, ne_eqb, true≢false, Decides}
 use Rattle.std.specs.Cmp.Lexicographic.{pointwise_decides}
 use Rattle.std.specs.List.{AllByRecursion, filter, flat_map, list_all, range_with_len}

@@ -1,5 +1,5 @@
--- What passes a test in lists that are joined from parts: a part more (`part_kept`), the part of one number more
--- (`number_kept`, `numbers_kept`), no number left (`all_kept`, `all_parts_kept`).
+-- What passes a test in lists that are joined from parts: a part more (`part_kept`), the part of
+-- one number more (`number_kept`, `numbers_kept`), no number left (`all_kept`, `all_parts_kept`).
 use Rattle.std.proofs.Common.{◌≡◌, ℕ, suc, ◌+◌, ◌-◌, ◌<◌, Bool, true, false, List, [], ◌∷◌, ◌++◌, map, refl, ap, sym, ◌∙◌, arith, append-nil, append_assoc}
 use Rattle.std.specs.Prelude.{if◌then◌else◌}
 use Rattle.std.specs.List.{filter, flat_map, range_with_len}

@@ -9,7 +9,8 @@ use Rattle.lesson_answers.specs.declared.answer.AnswerLines.{AnswerLines}
 use Rattle.lesson_answers.specs.DifferenceLines.{difference_lines, differs_line}
 use Rattle.lesson_answers.specs.Differences.{differences}
 
--- the setting of the answer has the voices and the bars of the lesson, so that it can be marked by the lesson
+-- the setting of the answer has the voices and the bars of the lesson, so that it can be marked by
+-- the lesson
 abbrev pub is_markable : Exercise → Exercise → Bool
 is_markable lesson answer = (lesson.voices == answer.voices) && (lesson.bars == answer.bars)
 
@@ -18,12 +19,14 @@ pub record TellsNothing (lines : MarkLines) : Type 0 where
   pub text : string_bytes lines.text ≡ []
   pub has_mark : lines.has_mark ≡ false
 
--- these lines tell the marks of a score as a setting of the lesson, where it can be one, and else nothing
+-- these lines tell the marks of a score as a setting of the lesson, where it can be one, and else
+-- nothing
 pub record TellsMarksBy (lesson answer : Exercise) (score : Grid) (lines : MarkLines) : Type 0 where
   pub marks : is_markable lesson answer ≡ true → TellsMarks lesson (AreMarks lesson score.columns) lines
   pub none : is_markable lesson answer ≡ false → TellsNothing lines
 
--- these lines tell of an answer what differs, then its marks by the lesson, and then how much differs
+-- these lines tell of an answer what differs, then its marks by the lesson, and then how much
+-- differs
 pub record TellsAnswer (lesson answer : Exercise) (score : Grid) (lines : AnswerLines) : Type 0 where
   pub marked : MarkLines
   pub marks : TellsMarksBy lesson answer score marked

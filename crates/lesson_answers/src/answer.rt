@@ -20,8 +20,8 @@ pub struct AnswerLines {
     pub has_mark: bool,
     /// Whether something differs.
     pub differs: bool,
-    /// A line for each difference; where the answer has the lesson's voices and bars a line for each mark, and one with the
-    /// number of marks; and a last one with the number of differences.
+    /// A line for each difference; where the answer has the lesson's voices and bars a line for
+    /// each mark, and one with the number of marks; and a last one with the number of differences.
     pub text: String,
 }
 

@@ -56,7 +56,8 @@ pub(crate) fn differs_in_range(lesson: &Exercise, answer: &Exercise, v: u8, bar:
     requires answer { IsValid answer.now }
     requires lesson_voice { v < lesson.now.voices }
     requires answer_voice { v < answer.now.voices }
-    ensures { result ≡ (is_free_in_both lesson.now answer.now v && not (words.same_range lesson.now answer.now v bar)) }
+    ensures { result ≡ (is_free_in_both lesson.now answer.now v
+        && not (words.same_range lesson.now answer.now v bar)) }
 {
     if v == lesson.cantus_voice || v == answer.cantus_voice {
         return false;

@@ -17,7 +17,8 @@ fn put_place(out: &mut String, voice: u8, bar: u8) -> Result<(), Memory>
 
 /// Appends what differs.
 fn put_text(out: &mut String, difference: Difference) -> Result<(), Memory>
-    ensures { OnOk result (string_bytes out.new ≡ string_bytes out.old ++ difference_text difference) }
+    ensures { OnOk result (string_bytes out.new ≡ string_bytes out.old ++ difference_text
+        difference) }
 {
     match difference {
         Difference::Mode => Ok(out.push_str("mode")?),
@@ -40,7 +41,8 @@ fn put_text(out: &mut String, difference: Difference) -> Result<(), Memory>
 
 /// Appends the line of a difference.
 fn put_difference(out: &mut String, difference: Difference) -> Result<(), Memory>
-    ensures { OnOk result (string_bytes out.new ≡ string_bytes out.old ++ difference_line difference) }
+    ensures { OnOk result (string_bytes out.new ≡ string_bytes out.old ++ difference_line
+        difference) }
 {
     out.push_str("lesson ")?;
     put_text(out, difference)?;
@@ -50,7 +52,8 @@ fn put_difference(out: &mut String, difference: Difference) -> Result<(), Memory
 
 /// Appends the lines of differences.
 pub(crate) fn put_differences(out: &mut String, differences: &[Difference]) -> Result<(), Memory>
-    ensures { OnOk result (string_bytes out.new ≡ string_bytes out.old ++ difference_lines differences.now) }
+    ensures { OnOk result (string_bytes out.new ≡ string_bytes out.old ++ difference_lines
+        differences.now) }
 {
     for difference in differences {
         put_difference(out, *difference)?;

@@ -24,7 +24,8 @@ fn fewer(n: u8, m: u8) -> u8
 
 /// Appends a difference, where there is one.
 fn put_if(out: &mut Vec<Difference>, is_there: bool, difference: Difference) -> Result<(), Memory>
-    ensures { OnOk result (out.new.items ≡ out.old.items ++ (if is_there then difference ∷ [] else [])) }
+    ensures { OnOk result (out.new.items ≡ out.old.items ++ (if is_there then difference
+        ∷ [] else [])) }
 {
     if is_there {
         out.push(difference)?;
@@ -112,7 +113,8 @@ fn put_given_of(
     requires lesson { IsValid lesson.now }
     requires answer { IsValid answer.now }
     requires complete { IsComplete answer.now score.now }
-    ensures { OnOk result (out.new.items ≡ out.old.items ++ filter (differs lesson.now answer.now score.now.columns)
+    ensures { OnOk result (out.new.items ≡ out.old.items
+        ++ filter (differs lesson.now answer.now score.now.columns)
         (map (λ bar. told.Given voice bar) (common_bars lesson.now answer.now))) }
 {
     let bars = fewer(lesson.bars, answer.bars);
@@ -133,7 +135,8 @@ fn put_given(
     requires lesson { IsValid lesson.now }
     requires answer { IsValid answer.now }
     requires complete { IsComplete answer.now score.now }
-    ensures { OnOk result (out.new.items ≡ out.old.items ++ filter (differs lesson.now answer.now score.now.columns)
+    ensures { OnOk result (out.new.items ≡ out.old.items
+        ++ filter (differs lesson.now answer.now score.now.columns)
         (in_each_bar (λ v bar. told.Given v bar) (common_voices lesson.now answer.now)
         (common_bars lesson.now answer.now))) }
 {
@@ -143,9 +146,10 @@ fn put_given(
     Ok(())
 }
 
-/// What an answer has otherwise than its lesson, where this is the answer's setting: the mode, the numbers of voices and bars,
-/// the species, the voice of the cantus firmus, and then, in the bars and voices that both have, its pitches, the ranges, the
-/// relax lines, and given notes that are not sung.
+/// What an answer has otherwise than its lesson, where this is the answer's setting: the mode, the
+/// numbers of voices and bars, the species, the voice of the cantus firmus, and then, in the bars
+/// and voices that both have, its pitches, the ranges, the relax lines, and given notes that are
+/// not sung.
 pub fn differences(
     alloc: Global,
     lesson: &Exercise,
@@ -155,7 +159,8 @@ pub fn differences(
     requires lesson { IsValid lesson.now }
     requires answer { IsValid answer.now }
     requires complete { IsComplete answer.now score.now }
-    ensures { IfOk result (λ found. found.items ≡ words.differences lesson.now answer.now score.now.columns) }
+    ensures { IfOk result (λ found. found.items ≡ words.differences lesson.now answer.now
+        score.now.columns) }
 {
     let mut out = Vec::new(alloc);
     put_head(&mut out, lesson, answer)?;

@@ -1,5 +1,5 @@
 -- What each rule asks, where it is broken.
-use Rattle.std.specs.Prelude.{ℕ, ◌==◌, nat_le, List, [], codes, if◌then◌else◌}
+use Rattle.std.specs.Prelude.{ℕ, ◌==◌, nat_le, List, codes, if◌then◌else◌}
 
 -- of S1 to S9
 abbrev pub first_sentence : ℕ → List ℕ

@@ -1,5 +1,5 @@
--- Q17 by the greatest key, as it is computed: the notes that no note is above are those at the greatest key
--- (`climax_is`), and some note is a last climax where that key is one (`least_is`).
+-- Q17 by the greatest key, as it is computed: the notes that no note is above are those at the
+-- greatest key (`climax_is`), and some note is a last climax where that key is one (`least_is`).
 use Rattle.std.specs.Prelude.{◌≡◌, ℕ, ◌+◌, ◌-◌, ℤ, pos, ◌≤ℤ◌, int_le, int_lt, Bool, true, false, not, cond, ◌&&◌, ◌||◌, List, [], ◌∷◌, count_by, length, Option, Some, None, if◌then◌else◌, refl}
 use Rattle.std.specs.Int.{int_max}
 use Rattle.std.specs.List.{list_all, list_any}

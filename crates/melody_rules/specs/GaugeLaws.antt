@@ -1,4 +1,5 @@
--- From a prefix of a setting to a longer one no gauge's least value falls, and in a setting it is the gauge's value.
+-- From a prefix of a setting to a longer one no gauge's least value falls, and in a setting it is
+-- the gauge's value.
 use Rattle.std.specs.Prelude.{◌≡◌, ℕ, zero, suc, ◌+◌, ◌-◌, ◌*◌, ◌<◌, ◌≤◌, ◌==◌, ℤ, ◌≤ℤ◌, int_le, Bool, true, false, not, cond, ◌&&◌, ◌||◌, List, ◌∷◌, length, Option, Some, None, if◌then◌else◌, refl}
 use Rattle.std.specs.Int.{from_bool, int_max}
 use Rattle.std.specs.List.{AllByRecursion, list_all, range_with_len}

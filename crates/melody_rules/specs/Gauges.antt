@@ -1,5 +1,5 @@
--- The gauges Q17 to Q20: what a whole line of a free voice costs, over the pitches of its notes, the latest first, and what each line costs
--- at least that begins with given notes.
+-- The gauges Q17 to Q20: what a whole line of a free voice costs, over the pitches of its notes,
+-- the latest first, and what each line costs at least that begins with given notes.
 use Rattle.std.specs.Prelude.{ℕ, ◌+◌, ◌-◌, ◌*◌, ◌==◌, ℤ, int_le, Bool, true, false, not, ◌&&◌, ◌||◌, nat_le, List, [], ◌∷◌, count_by, length, Option, Some, None, if◌then◌else◌}
 use Rattle.std.specs.Int.{from_bool}
 use Rattle.std.specs.List.{list_all, list_any}
@@ -34,11 +34,13 @@ abbrev pub is_at_top : ℤ → Option (Pitch × Pitch) → Bool
 is_at_top key None = true
 is_at_top key (Some ends) = int_le (key_of ends.1) key
 
--- column j is no place for a higher note: its menu has no start of the voice, or the key is no lower than the voice's range in its bar
+-- column j is no place for a higher note: its menu has no start of the voice, or the key is no
+-- lower than the voice's range in its bar
 abbrev pub is_topped : Exercise → ℕ → ℤ → ℕ → Bool
 is_topped ex v key j = not (menu_starts ex v j) || is_at_top key (range_of ex v (bar_of j))
 
--- the key is no lower than the voice's range in each bar with a column ahead, of those from column i on
+-- the key is no lower than the voice's range in each bar with a column ahead, of those from column
+-- i on
 abbrev pub is_final_climax : Exercise → ℕ → ℕ → ℤ → Bool
 is_final_climax ex v i key = list_all (is_topped ex v key) (columns_from ex i)
 
@@ -59,7 +61,8 @@ abbrev pub has_notes : List Pitch → Bool
 has_notes [] = false
 has_notes (p ∷ ps) = true
 
--- Q18, a narrow compass: there are notes, and no note's key is more than 6 semitones above another's
+-- Q18, a narrow compass: there are notes, and no note's key is more than 6 semitones above
+-- another's
 abbrev pub is_narrow : List Pitch → Bool
 is_narrow ps = has_notes ps && not (spans_over 6 ps)
 
@@ -88,7 +91,8 @@ abbrev pub leaps_least : LeastValue
 leaps_least ex v cells =
     3 * leaps_in (pitches cells) - moves_in (pitches cells) - starts_ahead ex v (length cells)
 
--- Q20, one pitch struck often: the notes of a pitch beyond its fourth, those before which it was struck four times at least
+-- Q20, one pitch struck often: the notes of a pitch beyond its fourth, those before which it was
+-- struck four times at least
 abbrev pub beyond_fourth : List Pitch → ℕ
 beyond_fourth [] = 0
 beyond_fourth (p ∷ ps) = from_bool (nat_le 4 (count_by (same_pitch p) ps)) + beyond_fourth ps

@@ -1,4 +1,5 @@
--- The pitches of a line's notes are those that start in its cells (`pitches_are`), so a held cell adds none.
+-- The pitches of a line's notes are those that start in its cells (`pitches_are`), so a held cell
+-- adds none.
 use Rattle.std.specs.Prelude.{◌≡◌, ℕ, suc, List, [], ◌∷◌, map, refl}
 use Rattle.std.specs.List.{filter_map}
 use Rattle.std.proofs.Common.{ap, sym, ◌∙◌}

@@ -1,6 +1,6 @@
--- The greatest and the least key of the notes of a voice, as summaries keep them: of no notes 0 and 127, the ends of
--- what MIDI has. Of a note or more they are what their names say (`greatest_key_is`, `least_key_is`), and they tell how
--- far any notes span (`span_is`).
+-- The greatest and the least key of the notes of a voice, as summaries keep them: of no notes 0 and
+-- 127, the ends of what MIDI has. Of a note or more they are what their names say
+-- (`greatest_key_is`, `least_key_is`), and they tell how far any notes span (`span_is`).
 use Rattle.std.specs.Prelude.{◌≡◌, ℕ, zero, suc, ℤ, pos, ◌-ℤ◌, ◌≤ℤ◌, int_lt, Bool, true, false, cond, ◌||◌, List, [], ◌∷◌, refl}
 use Rattle.std.specs.Int.{int_max, int_min}
 use Rattle.std.specs.List.{All, Any, list_any}

@@ -18,7 +18,8 @@ use Rattle.rule_law.specs.Nearby.{NearRow, pitch_at, whole_of}
 use Rattle.rule_law.specs.Terms.{holds_of, interval_of_pitches, move_from, is_repetition, is_step, is_leap, rises, same_way, opposite_ways, degrees_without_sign, semitones_without_sign}
 use Rattle.rule_law.specs.Voices.{on_free_voice, count_free, is_free}
 
--- the degrees and semitones of the moves that go up and down: the unison, seconds, thirds, the fourth, the fifth and the octave
+-- the degrees and semitones of the moves that go up and down: the unison, seconds, thirds, the
+-- fourth, the fifth and the octave
 abbrev pub melodic_sizes : List (ℕ × ℕ)
 melodic_sizes = (0, 0) ∷ (1, 1) ∷ (1, 2) ∷ (2, 3) ∷ (2, 4) ∷ (3, 5) ∷ (4, 7) ∷ (7, 12) ∷ []
 
@@ -51,7 +52,8 @@ leaves_sharp previous (Hold q) = false
 leaves_sharp None (Start q) = false
 leaves_sharp (Some p) (Start q) = int_eq (alter_of p) (pos 1) && not (degree_of q == degree_of p + 1)
 
--- the pitches of the notes of a line, the latest first: those that start in its cells (`Held.pitches_are`)
+-- the pitches of the notes of a line, the latest first: those that start in its cells
+-- (`Held.pitches_are`)
 abbrev pub pitches : List Cell → List Pitch
 pitches cells = map (λ n. n.pitch) (notes_from 0 cells)
 
@@ -68,11 +70,13 @@ holds_of_both test None j = false
 holds_of_both test (Some i) None = false
 holds_of_both test (Some i) (Some j) = test i j
 
--- the test holds of the move to the latest note and the one to the note that starts; `before` is the note before the latest
+-- the test holds of the move to the latest note and the one to the note that starts; `before` is
+-- the note before the latest
 abbrev pub on_moves : (Interval → Interval → Bool) → Option Pitch → Option Pitch → Cell → Bool
 on_moves test before last now = holds_of_both test (interval_of_pitches before last) (move_from last now)
 
--- two leaps the same way may go from end to end by an octave at most, and by a consonance or a fourth
+-- two leaps the same way may go from end to end by an octave at most, and by a consonance or a
+-- fourth
 abbrev pub is_fair_outline : Interval → Bool
 is_fair_outline k =
     nat_le (semitones_without_sign k) 12
@@ -88,7 +92,8 @@ outlines_badly before last now =
 abbrev pub goes_on_after_leap : Option Pitch → Option Pitch → Cell → Bool
 goes_on_after_leap = on_moves (λ i j. nat_le 5 (degrees_without_sign i) && not (opposite_ways i j))
 
--- by the note that starts, the latest note becomes a turning note: one whose own move and whose next note's move go opposite ways
+-- by the note that starts, the latest note becomes a turning note: one whose own move and whose
+-- next note's move go opposite ways
 abbrev pub turns : Option Pitch → Option Pitch → Cell → Bool
 turns = on_moves opposite_ways
 
@@ -97,7 +102,8 @@ abbrev pub latest_turning : List Pitch → Option Pitch
 latest_turning [] = None
 latest_turning (c ∷ ps) = if turns (before_last ps) (last_of ps) (Start c) then last_of ps else latest_turning ps
 
--- S8: a note starts by which the latest note becomes a turning note, six semitones from the turning note before it
+-- S8: a note starts by which the latest note becomes a turning note, six semitones from the turning
+-- note before it
 abbrev pub turns_at_tritone : Option Pitch → Option Pitch → Option Pitch → Cell → Bool
 turns_at_tritone turning before last now =
     turns before last now && holds_of (λ k. semitones_without_sign k == 6) (interval_of_pitches turning last)
@@ -151,7 +157,8 @@ broken_in rule ex voices = if looks_back rule then window_rows rule ex voices el
 abbrev pub enough_after : ℕ → Exercise → ℕ → Row Bool
 enough_after rule ex voices = at_once
 
--- a toll charges a move. Q7: by a repetition. Q8: by a third. Q9: by a fourth or a fifth. Q10: by a sixth or more
+-- a toll charges a move. Q7: by a repetition. Q8: by a third. Q9: by a fourth or a fifth. Q10: by a
+-- sixth or more
 abbrev pub charges_move : ℕ → Interval → Bool
 charges_move toll i =
     if toll == 7 then is_repetition i

@@ -1,5 +1,5 @@
--- The latest turning note of a voice, said of its notes alone: `latest_turning` is it (`latest_turning_is`), and there
--- is no other (`latest_turning_is_one`).
+-- The latest turning note of a voice, said of its notes alone: `latest_turning` is it
+-- (`latest_turning_is`), and there is no other (`latest_turning_is_one`).
 use Rattle.std.specs.Prelude.{◌≡◌, ℕ, zero, suc, ◌+◌, ◌<◌, Bool, true, false, List, [], ◌∷◌, length, IsTrue, MatchOption, Option, Some, None, if◌then◌else◌, refl, slice_get}
 use Rattle.std.proofs.Common.{ap, ◌∙◌, subst, arith, inl, inr}
 use Rattle.std.proofs.lemmas.Bool.{cases_lt}
@@ -9,8 +9,8 @@ use Rattle.fux_pitch.specs.Size.{interval_between}
 use Rattle.rule_law.specs.Terms.{opposite_ways}
 use Rattle.melody_rules.specs.Rows.{latest_turning}
 
--- a note of a voice, whose notes stand the latest first, is a turning note: it is an inner note, the one at place k
--- came next, and its own move and the next note's move go opposite ways
+-- a note of a voice, whose notes stand the latest first, is a turning note: it is an inner note,
+-- the one at place k came next, and its own move and the next note's move go opposite ways
 pub record IsTurning (ps : List Pitch) (k : ℕ) (turning : Pitch) : Type 0 where
   pub before : Pitch
   pub next : Pitch

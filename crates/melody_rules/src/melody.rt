@@ -22,7 +22,8 @@ fn breaks_in_voice(rule: u8, species: u8, previous: Option<Pitch>, now: Cell) ->
     }
 }
 
-/// Whether S4, S5 or S26 is broken in a column, from the pitch of each voice's latest note before it.
+/// Whether S4, S5 or S26 is broken in a column, from the pitch of each voice's latest note before
+/// it.
 #[inline(always)]
 pub fn breaks(
     rule: u8,
@@ -33,7 +34,8 @@ pub fn breaks(
     latest: &Latest,
     now: &[Cell],
 ) -> bool
-    ensures { result ≡ rows.near_rows rule ex.now voices.bits i before.now latest.now.pitches now.now }
+    ensures { result ≡ rows.near_rows rule ex.now voices.bits i before.now latest.now.pitches
+        now.now }
 {
     match voice_of(voices) {
         Some(v) => {

@@ -8,7 +8,8 @@ use fux_grid::Cell;
 use fux_pitch::{Interval, Pitch, interval_of};
 use rule_law::{is_repetition, move_from, rises};
 
-/// Whether a line may move so: by a second, a third, a fourth, a fifth, an octave, or a minor sixth up.
+/// Whether a line may move so: by a second, a third, a fourth, a fifth, an octave, or a minor sixth
+/// up.
 #[inline]
 fn is_melodic(i: Interval) -> bool
     ensures { result ≡ rows.is_melodic i }
@@ -31,7 +32,8 @@ fn goes_far(degrees: u16) -> bool
     degrees == 6 || degrees > 7
 }
 
-/// Whether a line may move from one pitch to another. Most moves that it may not make go too far, which degrees alone tell.
+/// Whether a line may move from one pitch to another. Most moves that it may not make go too far,
+/// which degrees alone tell.
 #[inline]
 #[tactic(auto, using(crate::proofs::MoveLemmas::far_is_unmelodic))]
 fn leads_to(p: Pitch, q: Pitch) -> bool

@@ -14,8 +14,9 @@ use crate::windows::{
 use fux_grid::{Cell, Score};
 use fux_pitch::{Pitch, semitone};
 
-/// What later notes of a voice are judged by: the pitches of its latest note, of the one before it and of its latest
-/// turning note, and the greatest and the least key of its notes (0 and 127 without notes).
+/// What later notes of a voice are judged by: the pitches of its latest note, of the one before it
+/// and of its latest turning note, and the greatest and the least key of its notes (0 and 127
+/// without notes).
 #[derive(Clone, Copy, Debug, PartialEq, Eq)]
 pub struct VoiceNotes {
     pub last: Option<Pitch>,
@@ -59,7 +60,8 @@ pub(crate) fn lower(key: u8, other: u8) -> u8
 
 /// The notes with one that starts.
 fn with_note(notes: &VoiceNotes, pitch: Pitch) -> VoiceNotes
-    ensures { (cells : List Cell) → IsNotesOf cells notes.now → IsNotesOf (Start pitch ∷ cells) result }
+    ensures { (cells : List Cell) → IsNotesOf cells notes.now → IsNotesOf (Start pitch ∷ cells)
+        result }
 {
     let key = semitone(pitch);
     VoiceNotes {
@@ -73,7 +75,8 @@ fn with_note(notes: &VoiceNotes, pitch: Pitch) -> VoiceNotes
 
 /// The latest turning note, once a further note starts.
 fn turning_after(notes: &VoiceNotes, pitch: Pitch) -> Option<Pitch>
-    ensures { result ≡ (if rows.turns notes.now.before notes.now.last (Start pitch) then notes.now.last else notes.now.turning) }
+    ensures { result ≡ (if rows.turns notes.now.before notes.now.last (Start pitch)
+        then notes.now.last else notes.now.turning) }
 {
     if turns(notes.before, notes.last, Cell::Start(pitch)) {
         notes.last
@@ -108,7 +111,8 @@ pub fn notes_before(score: &Score, v: u8, n: usize) -> VoiceNotes
 /// S9: a note starts with which the notes span more than a tenth, as they didn't before.
 #[inline]
 pub(crate) fn widens(notes: &VoiceNotes, now: Cell) -> bool
-    ensures { (cells : List Cell) → IsNotesOf cells notes.now → result ≡ rows.widens (rows.pitches cells) now }
+    ensures { (cells : List Cell) → IsNotesOf cells notes.now → result
+        ≡ rows.widens (rows.pitches cells) now }
 {
     match now {
         Cell::Start(pitch) => {
@@ -122,7 +126,8 @@ pub(crate) fn widens(notes: &VoiceNotes, now: Cell) -> bool
 
 /// Whether S6, S7, S8 or S9 is broken by a cell of a voice with these notes.
 pub fn breaks_after(rule: u8, notes: &VoiceNotes, now: Cell) -> bool
-    ensures { (cells : List Cell) → IsNotesOf cells notes.now → result ≡ rows.window_rule rule (rows.pitches cells) now }
+    ensures { (cells : List Cell) → IsNotesOf cells notes.now → result ≡ rows.window_rule rule
+        (rows.pitches cells) now }
 {
     match rule {
         6 => outlines_badly(notes.before, notes.last, now),
@@ -134,7 +139,8 @@ pub fn breaks_after(rule: u8, notes: &VoiceNotes, now: Cell) -> bool
 
 /// Whether Q13 stands for a cell of a voice with these notes.
 pub fn leap_open_after(notes: &VoiceNotes, now: Cell) -> bool
-    ensures { (cells : List Cell) → IsNotesOf cells notes.now → result ≡ rows.leaves_open (rows.pitches cells) now }
+    ensures { (cells : List Cell) → IsNotesOf cells notes.now → result ≡ rows.leaves_open
+        (rows.pitches cells) now }
 {
     leaves_leap_open(notes.before, notes.last, now)
 }

@@ -27,7 +27,8 @@ fn is_rough_move(species: u8, previous: Option<Pitch>, now: Cell) -> bool
 /// Whether S6, S7, S8 or S9 is broken by a cell of a voice with these notes.
 #[inline]
 fn is_rough_line(notes: &VoiceNotes, now: Cell) -> bool
-    ensures { (cells : List Cell) → IsNotesOf cells notes.now → result ≡ smooth.is_rough_line (rows.pitches cells) now }
+    ensures { (cells : List Cell) → IsNotesOf cells notes.now → result ≡ smooth.is_rough_line
+        (rows.pitches cells) now }
 {
     outlines_badly(notes.before, notes.last, now)
         || goes_on_after_leap(notes.before, notes.last, now)
@@ -38,7 +39,8 @@ fn is_rough_line(notes: &VoiceNotes, now: Cell) -> bool
 /// Whether a cell of a voice with these notes breaks no rule of melody: none of S4 to S9 and S26.
 #[inline]
 fn is_smooth(species: u8, notes: &VoiceNotes, now: Cell) -> bool
-    ensures { (cells : List Cell) → IsNotesOf cells notes.now → result ≡ not (smooth.is_rough species (rows.pitches cells) now) }
+    ensures { (cells : List Cell) → IsNotesOf cells notes.now → result
+        ≡ not (smooth.is_rough species (rows.pitches cells) now) }
 {
     if !starts(now) {
         return true;
@@ -49,7 +51,8 @@ fn is_smooth(species: u8, notes: &VoiceNotes, now: Cell) -> bool
 /// Whether a voice of a column is the cantus, or isn't there, or breaks no rule of melody.
 #[inline]
 fn is_smooth_at(ex: &Exercise, notes: &VoiceNotes, now: &[Cell], v: u8) -> bool
-    ensures { (cells : List Cell) → IsNotesOf cells notes.now → result ≡ not (smooth.is_rough_in ex.now v cells (cell_in now.now v)) }
+    ensures { (cells : List Cell) → IsNotesOf cells notes.now → result
+        ≡ not (smooth.is_rough_in ex.now v cells (cell_in now.now v)) }
 {
     if v >= ex.voices || !is_free(ex, v) {
         return true;
@@ -57,18 +60,21 @@ fn is_smooth_at(ex: &Exercise, notes: &VoiceNotes, now: &[Cell], v: u8) -> bool
     is_smooth(species_of(ex, v), notes, cell_of(now, v as usize))
 }
 
-/// Whether a voice of a column that comes after these notes breaks no rule of melody, or is the cantus or isn't there.
+/// Whether a voice of a column that comes after these notes breaks no rule of melody, or is the
+/// cantus or isn't there.
 #[inline]
 pub fn is_smooth_in(ex: &Exercise, voices: &[VoiceNotes; 4], now: &[Cell], v: u8) -> bool
     requires { v < 4 }
-    ensures { (behind : List (List Cell)) → AreNotesOf behind voices.now → result ≡ not (smooth.is_rough_at ex.now behind now.now v) }
+    ensures { (behind : List (List Cell)) → AreNotesOf behind voices.now → result
+        ≡ not (smooth.is_rough_at ex.now behind now.now v) }
 {
     is_smooth_at(ex, &voices[v as usize], now, v)
 }
 
 /// Whether a column that comes after these notes breaks no rule of melody in any voice.
 pub fn are_smooth(ex: &Exercise, voices: &[VoiceNotes; 4], now: &[Cell]) -> bool
-    ensures { (behind : List (List Cell)) → AreNotesOf behind voices.now → result ≡ not (smooth.some_rough ex.now behind now.now) }
+    ensures { (behind : List (List Cell)) → AreNotesOf behind voices.now → result
+        ≡ not (smooth.some_rough ex.now behind now.now) }
 {
     for v in 0..4 {
         if !is_smooth_in(ex, voices, now, v) {

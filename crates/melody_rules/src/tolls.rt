@@ -31,7 +31,8 @@ fn charges_move(toll: u8, i: Interval) -> bool
 fn toll_of_interval(i: Interval) -> Option<u8>
     ensures first { IfSome result (λ toll. 7 ≤ toll) }
     ensures last { IfSome result (λ toll. toll ≤ 10) }
-    ensures stands { (toll : ℕ) → 7 ≤ toll → toll ≤ 10 → rows.charges_move toll i ≡ is_this toll result }
+    ensures stands { (toll : ℕ) → 7 ≤ toll → toll ≤ 10 → rows.charges_move toll i
+        ≡ is_this toll result }
 {
     match i.degrees.unsigned_abs() {
         0 if i.semitones == 0 => Some(7),
@@ -47,7 +48,8 @@ fn toll_of_interval(i: Interval) -> Option<u8>
 pub fn toll_of_move(previous: Option<Pitch>, now: Cell) -> Option<u8>
     ensures first { IfSome result (λ toll. 7 ≤ toll) }
     ensures last { IfSome result (λ toll. toll ≤ 10) }
-    ensures stands { (toll : ℕ) → 7 ≤ toll → toll ≤ 10 → rows.pays_move toll previous now ≡ is_this toll result }
+    ensures stands { (toll : ℕ) → 7 ≤ toll → toll ≤ 10 → rows.pays_move toll previous now
+        ≡ is_this toll result }
 {
     match move_from(previous, now) {
         Some(step) => toll_of_interval(step),
@@ -58,7 +60,8 @@ pub fn toll_of_move(previous: Option<Pitch>, now: Cell) -> Option<u8>
 /// 1 where a toll stands for a free voice, else 0.
 #[inline(always)]
 fn cost_of_voice(toll: u8, ex: &Exercise, latest: &Latest, now: &[Cell], v: u8) -> u32
-    ensures value { result ≡ rows.move_cost toll ex.now v (pitch_at latest.now.pitches v) (cell_in now.now v) }
+    ensures value { result ≡ rows.move_cost toll ex.now v (pitch_at latest.now.pitches v)
+        (cell_in now.now v) }
     ensures bound { result ≤ 1 }
 {
     if !is_free(ex, v) {
@@ -70,7 +73,8 @@ fn cost_of_voice(toll: u8, ex: &Exercise, latest: &Latest, now: &[Cell], v: u8) 
     }
 }
 
-/// In how many free voices Q7, Q8, Q9 or Q10 stands in a column, from the pitch of each voice's latest note before it.
+/// In how many free voices Q7, Q8, Q9 or Q10 stands in a column, from the pitch of each voice's
+/// latest note before it.
 #[inline(always)]
 #[tactic(auto, unfolding(crate::specs::Rows::toll_rows))]
 pub fn cost(

@@ -21,7 +21,8 @@ pub fn all_silent() -> [VoiceNotes; 4]
 
 /// The notes of all voices after one more column.
 pub fn all_noted(voices: &[VoiceNotes; 4], column: &[Cell]) -> [VoiceNotes; 4]
-    ensures { (behind : List (List Cell)) → AreNotesOf behind voices.now → AreNotesOf (column.now ∷ behind) result }
+    ensures { (behind : List (List Cell)) → AreNotesOf behind voices.now
+        → AreNotesOf (column.now ∷ behind) result }
 {
     [
         noted(&voices[0], cell_of(column, 0)),
@@ -46,7 +47,8 @@ pub fn all_notes_before(score: &Score, n: usize) -> [VoiceNotes; 4]
 
 /// The pitch of each voice's latest note.
 pub fn latest_of_notes(voices: &[VoiceNotes; 4]) -> Latest
-    ensures { (behind : List (List Cell)) → AreNotesOf behind voices.now → result.pitches ≡ previous_pitches behind }
+    ensures { (behind : List (List Cell)) → AreNotesOf behind voices.now → result.pitches
+        ≡ previous_pitches behind }
 {
     Latest {
         pitches: [
@@ -82,7 +84,8 @@ pub fn breaks_looking_back(
 /// 1 where Q13 stands for a free voice, else 0.
 #[inline]
 fn open_leap(ex: &Exercise, notes: &VoiceNotes, now: &[Cell], v: u8) -> u32
-    ensures value { (cells : List Cell) → IsNotesOf cells notes.now → result ≡ rows.open_leap ex.now v cells (cell_in now.now v) }
+    ensures value { (cells : List Cell) → IsNotesOf cells notes.now → result ≡ rows.open_leap ex.now
+        v cells (cell_in now.now v) }
     ensures bound { result ≤ 1 }
 {
     u32::from(is_free(ex, v) && leap_open_after(notes, cell_of(now, v as usize)))

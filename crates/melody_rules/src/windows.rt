@@ -1,4 +1,5 @@
-//! Rules and a toll that look back over the notes of a voice: S6 to S9 and Q13. A move without semitones goes no way.
+//! Rules and a toll that look back over the notes of a voice: S6 to S9 and Q13. A move without
+//! semitones goes no way.
 
 ghost use Rattle.std.specs.Prelude.{◌≡◌, ◌&&◌, ◌-ℤ◌, pos, int_lt};
 ghost use Rattle.fux_pitch.specs.Size.{IsShort};
@@ -9,7 +10,8 @@ use fux_grid::Cell;
 use fux_pitch::{Interval, Pitch, interval_of, is_imperfect, is_perfect, reduce};
 use rule_law::{is_leap, is_step, opposite_ways, same_way};
 
-/// Whether two leaps the same way may go so from end to end: by an octave at most, and by a consonance or a fourth.
+/// Whether two leaps the same way may go so from end to end: by an octave at most, and by a
+/// consonance or a fourth.
 fn is_fair_outline(whole: Interval) -> bool
     requires { IsShort whole }
     ensures { result ≡ rows.is_fair_outline whole }
@@ -27,13 +29,14 @@ fn is_fair_outline(whole: Interval) -> bool
 /// Whether two moves are leaps the same way.
 #[inline]
 fn leaps_on(first: Interval, second: Interval) -> bool
-    ensures { result ≡ (terms.is_leap first && terms.is_leap second && terms.same_way first second) }
+    ensures { result ≡ (terms.is_leap first && terms.is_leap second && terms.same_way first
+        second) }
 {
     is_leap(first) && is_leap(second) && same_way(first, second)
 }
 
-/// S6: a note starts by the second of two leaps the same way, which from end to end go by more than an octave or
-/// by neither a consonance nor a fourth.
+/// S6: a note starts by the second of two leaps the same way, which from end to end go by more than
+/// an octave or by neither a consonance nor a fourth.
 #[inline]
 pub(crate) fn outlines_badly(before: Option<Pitch>, last: Option<Pitch>, now: Cell) -> bool
     ensures { result ≡ rows.outlines_badly before last now }
@@ -71,7 +74,8 @@ pub(crate) fn turns(before: Option<Pitch>, last: Option<Pitch>, now: Cell) -> bo
     }
 }
 
-/// S8: a note starts by which the latest note becomes a turning note, six semitones from the turning note before it.
+/// S8: a note starts by which the latest note becomes a turning note, six semitones from the
+/// turning note before it.
 #[inline]
 pub(crate) fn turns_at_tritone(
     turning: Option<Pitch>,

@@ -1,4 +1,5 @@
--- Where S18 may be broken (`within_a_bar`, `elsewhere`), and that it is settled at its own column (`newly_bare`).
+-- Where S18 may be broken (`within_a_bar`, `elsewhere`), and that it is settled at its own column
+-- (`newly_bare`).
 use Rattle.std.specs.Prelude.{◌≡◌, ℕ, ◌==◌, Bool, true, false, ◌&&◌, ◌||◌, nat_le, List, [], ◌∷◌, ◌++◌, Option, Some, None, IsTrue, is_some, length, slice_index_or, if◌then◌else◌, refl}
 use Rattle.std.proofs.Common.{ap}
 use Rattle.std.specs.Option.{option_map_or}
@@ -53,7 +54,8 @@ elsewhere ex voices i behind now none =
     at true true false y g h s t e f k = refl
     at true false c y g h s t e f k = refl
 
--- at a place that the newest column may settle: it is the newest column, and what is newly settled there is S18
+-- at a place that the newest column may settle: it is the newest column, and what is newly settled
+-- there is S18
 module _ (rule : ℕ) (ex : Exercise) (voices : ℕ) (p : List (List Cell)) (col : List Cell) (place : ℕ) where
   abbrev IsBareAt : RuleRow → Type 0
   IsBareAt it =

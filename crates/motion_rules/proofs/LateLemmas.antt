@@ -27,7 +27,8 @@ run_row_of toll late other = at (toll == 12) (toll == 14) (ne_eqb toll 12 other)
     at false true e h = refl
     at false false e h = cc
 
--- at a place that the newest column may settle: it is the newest column, and what is newly settled there is the toll
+-- at a place that the newest column may settle: it is the newest column, and what is newly settled
+-- there is the toll
 module _ (ex : Exercise) (p : List (List Cell)) (col : List Cell) (place : ℕ) where
   pub newly_inner : IsAmong (inner_row.first ex (length p)) (inner_row.count ex (length p)) place
       → (place ≡ length p) × (newly_costs inner_row ex p col place ≡ inner_cost ex (p ++ col ∷ []) place)

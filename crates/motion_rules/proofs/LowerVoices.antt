@@ -1,4 +1,5 @@
--- What the rules S10, S16 and S17 say of voices among the first ones, they read in the cells of those.
+-- What the rules S10, S16 and S17 say of voices among the first ones, they read in the cells of
+-- those.
 use Rattle.std.specs.Prelude.{◌≡◌, ℕ, ◌<◌, ◌==◌, Bool, true, false, ◌&&◌, List, refl}
 use Rattle.std.proofs.Common.{ap, ◌∙◌}
 use Rattle.fux_grid.specs.declared.cell.Cell.{Cell}

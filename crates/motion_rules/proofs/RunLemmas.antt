@@ -1,5 +1,5 @@
--- How many pairs of voices pass a test, added up one by one (`count_pairs-written`), and that a voice which a column lacks goes on with none
--- (`no_run`).
+-- How many pairs of voices pass a test, added up one by one (`count_pairs-written`), and that a
+-- voice which a column lacks goes on with none (`no_run`).
 use Rattle.std.proofs.Common.{◌≡◌, ℕ, ◌+◌, ◌≤◌, Bool, true, false, ◌&&◌, ◌||◌, cond, List, [], length, refl, ap, ◌∙◌, arith}
 use Rattle.std.specs.Int.{from_bool}
 use Rattle.std.specs.Prelude.{slice_index_or, if◌then◌else◌}

@@ -1,4 +1,5 @@
--- S18: equal perfect intervals at the beginnings of two bars in a row, with nothing between that hides them.
+-- S18: equal perfect intervals at the beginnings of two bars in a row, with nothing between that
+-- hides them.
 use Rattle.std.specs.Prelude.{ℕ, ◌==◌, Bool, true, ◌&&◌, ◌||◌, nat_le, List, [], ◌∷◌, Option, Some, map, slice_index_or}
 use Rattle.std.specs.List.{list_all}
 use Rattle.fux_pitch.specs.declared.pitch.Pitch.{Pitch}
@@ -34,23 +35,27 @@ newest_cells behind v = map (λ k. cell_in (slice_index_or behind k []) v) (0 �
 abbrev pub never_leaves : Option Pitch → List Cell → Bool
 never_leaves p cells = list_all (stays_near p) cells
 
--- from one column to another both voices have gone to other pitches, from a perfect interval to an equal one
+-- from one column to another both voices have gone to other pitches, from a perfect interval to an
+-- equal one
 abbrev pub arrive_in_parallel : List Cell → List Cell → ℕ → ℕ → Bool
 arrive_in_parallel before now v w =
     equal_perfects (interval_in before v w) (interval_in now v w)
     && differs (pitch_of (cell_in before v)) (pitch_of (cell_in now v))
     && differs (pitch_of (cell_in before w)) (pitch_of (cell_in now w))
 
--- at the beginning of a bar that isn't the first, two voices have arrived so since the beginning of the bar before
+-- at the beginning of a bar that isn't the first, two voices have arrived so since the beginning of
+-- the bar before
 abbrev pub arrive_at_bar : ℕ → List Cell → List Cell → ℕ → ℕ → Bool
 arrive_at_bar i bar_line now v w = begins_bar i && nat_le 8 i && arrive_in_parallel bar_line now v w
 
--- a voice goes on within bars, and the notes that it starts since the beginning of the bar before stay near the pitch that it sounds there
+-- a voice goes on within bars, and the notes that it starts since the beginning of the bar before
+-- stay near the pitch that it sounds there
 abbrev pub stays_since_bar : Exercise → List (List Cell) → ℕ → Bool
 stays_since_bar ex behind v =
     goes_within_bars ex v && never_leaves (pitch_of (cell_in (bar_line_before behind) v)) (newest_cells behind v)
 
--- S18: they have arrived so, and one of them goes on within bars and stays near; one such voice is enough
+-- S18: they have arrived so, and one of them goes on within bars and stays near; one such voice is
+-- enough
 abbrev pub is_bare_parallel : Exercise → ℕ → List (List Cell) → List Cell → ℕ → ℕ → Bool
 is_bare_parallel ex i behind now v w =
     arrive_at_bar i (bar_line_before behind) now v w && (stays_since_bar ex behind v || stays_since_bar ex behind w)

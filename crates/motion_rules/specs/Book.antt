@@ -39,7 +39,8 @@ at_once_row n = record {
   count = λ ex i. 1;
 }
 
--- S18 may be broken at the column: a bar that isn't the first begins, and the species goes on within bars or species are mixed
+-- S18 may be broken at the column: a bar that isn't the first begins, and the species goes on
+-- within bars or species are mixed
 abbrev pub may_be_bare : Exercise → ℕ → Bool
 may_be_bare ex i = (is_mixed ex || moves_within_bars ex.species) && begins_bar i && nat_le 8 i
 

@@ -19,7 +19,8 @@ is_imperfect_of degrees i = is_imperfect_size i && int_eq (reduced i).degrees (p
 abbrev pub sound_imperfect : ℕ → List Cell → ℕ → ℕ → Bool
 sound_imperfect degrees col v w = holds_of (is_imperfect_of degrees) (interval_in col v w)
 
--- the column at the beginning of the bar that begins so many bars before a place, of the columns behind it
+-- the column at the beginning of the bar that begins so many bars before a place, of the columns
+-- behind it
 abbrev pub bars_before : ℕ → List (List Cell) → List Cell
 bars_before bars behind = slice_index_or behind (8 * bars - 1) []
 
@@ -47,7 +48,8 @@ keep_on columns v w =
 abbrev pub ends_four_bars : ℕ → Bool
 ends_four_bars i = begins_bar i && nat_le 4 (bar_of i)
 
--- Q14: there, the pairs that sound thirds, or sixths, at the bar's beginning and at those of the three bars before
+-- Q14: there, the pairs that sound thirds, or sixths, at the bar's beginning and at those of the
+-- three bars before
 abbrev pub imperfect_runs : ℕ → List (List Cell) → List Cell → ℕ
 imperfect_runs i behind now =
     if ends_four_bars i then count_pairs (keep_on (four_bar_lines behind now)) else 0

@@ -1,4 +1,5 @@
-//! S18: equal perfect intervals at the beginnings of two bars in a row, with nothing between that hides them.
+//! S18: equal perfect intervals at the beginnings of two bars in a row, with nothing between that
+//! hides them.
 
 ghost use Rattle.std.specs.Prelude.{◌≡◌, ◌<◌, ◌≤◌, ◌-◌, ℕ, length};
 ghost use Rattle.fux_grid.specs.Cells.{cell_in, pitch_of};
@@ -28,8 +29,8 @@ pub fn stays_near(p: Option<Pitch>, cell: Cell) -> bool
 /// The cells of a voice in the seven columns before column `i`, from the newest one on.
 fn newest_cells<C: ColumnsAround>(around: &C, ex: &Exercise, i: usize, v: u8) -> [Cell; 7]
     requires { ex.now.voices ≤ 4 }
-    ensures { (s : Columns) (first : ℕ) → C.show around.now ex.now s first → first ≤ i - 8 → i ≤ length s →
-        result ≡ words.newest_cells (earlier s i) v }
+    ensures { (s : Columns) (first : ℕ) → C.show around.now ex.now s first → first ≤ i - 8 → i
+        ≤ length s → result ≡ words.newest_cells (earlier s i) v }
 {
     [
         cell_behind(around, ex, v, i, 0),
@@ -80,19 +81,20 @@ fn goes_within_bars(ex: &Exercise, v: u8) -> bool
     matches!(species_of(ex, v), 2 | 3 | 5)
 }
 
-/// Whether at column `i`, whose cells are `now`, two voices have arrived so since `bar_line`, the column at the beginning of the bar
-/// before.
+/// Whether at column `i`, whose cells are `now`, two voices have arrived so since `bar_line`, the
+/// column at the beginning of the bar before.
 fn arrive_at_bar(i: usize, bar_line: &[Cell], now: &[Cell], v: u8, w: u8) -> bool
     ensures { result ≡ words.arrive_at_bar i bar_line.now now.now v w }
 {
     begins_bar(i) && i >= 8 && arrive_in_parallel(bar_line, now, v as usize, w as usize)
 }
 
-/// Whether a voice goes on within bars and stays near the pitch that it sounds at the beginning of the bar before.
+/// Whether a voice goes on within bars and stays near the pitch that it sounds at the beginning of
+/// the bar before.
 fn stays_since_bar<C: ColumnsAround>(around: &C, ex: &Exercise, i: usize, v: u8) -> bool
     requires { ex.now.voices ≤ 4 }
-    ensures { (s : Columns) (first : ℕ) → C.show around.now ex.now s first → first ≤ i - 8 → i ≤ length s →
-        result ≡ words.stays_since_bar ex.now (earlier s i) v }
+    ensures { (s : Columns) (first : ℕ) → C.show around.now ex.now s first → first ≤ i - 8 → i
+        ≤ length s → result ≡ words.stays_since_bar ex.now (earlier s i) v }
 {
     if !goes_within_bars(ex, v) {
         return false;
@@ -107,16 +109,17 @@ fn stays_since_bar<C: ColumnsAround>(around: &C, ex: &Exercise, i: usize, v: u8)
 /// S18 of two voices.
 fn is_bare_parallel<C: ColumnsAround>(around: &C, ex: &Exercise, i: usize, v: u8, w: u8) -> bool
     requires { ex.now.voices ≤ 4 }
-    ensures { (s : Columns) (first : ℕ) → C.show around.now ex.now s first → first ≤ i - 8 → i < length s →
-        result ≡ reading_back (words.is_bare_parallel ex.now) s i v w }
+    ensures { (s : Columns) (first : ℕ) → C.show around.now ex.now s first → first ≤ i - 8 → i
+        < length s → result ≡ reading_back (words.is_bare_parallel ex.now) s i v w }
 {
     arrive_at_bar(i, cells_behind(around, ex, i, 7), around.cells(ex, i), v, w)
         && (stays_since_bar(around, ex, i, v) || stays_since_bar(around, ex, i, w))
 }
 
-/// S18: whether at the beginning of a bar that isn't the first, two voices sound a perfect interval equal to that at the beginning of
-/// the bar before, each with another pitch than there, while each note between of one of them, whose species is 2, 3 or 5, stays within
-/// two degrees of its pitch there. The nine columns up to column `i` are read.
+/// S18: whether at the beginning of a bar that isn't the first, two voices sound a perfect interval
+/// equal to that at the beginning of the bar before, each with another pitch than there, while each
+/// note between of one of them, whose species is 2, 3 or 5, stays within two degrees of its pitch
+/// there. The nine columns up to column `i` are read.
 pub fn breaks_afterbeat<C: ColumnsAround>(
     around: &C,
     ex: &Exercise,
@@ -124,8 +127,8 @@ pub fn breaks_afterbeat<C: ColumnsAround>(
     i: usize,
 ) -> bool
     requires { ex.now.voices ≤ 4 }
-    ensures { (s : Columns) (first : ℕ) → C.show around.now ex.now s first → first ≤ i - 8 → i < length s →
-        result ≡ reading_of (afterbeat_row ex.now voices.bits) s i }
+    ensures { (s : Columns) (first : ℕ) → C.show around.now ex.now s first → first ≤ i - 8 → i
+        < length s → result ≡ reading_of (afterbeat_row ex.now voices.bits) s i }
 {
     let Some((v, w)) = pair_of(voices) else {
         return false;

@@ -15,7 +15,8 @@ use rule_law::{
     cells_behind,
 };
 
-/// The crate's rules and tolls keep the laws of a book: a theorem, which costs nothing when it's called.
+/// The crate's rules and tolls keep the laws of a book: a theorem, which costs nothing when it's
+/// called.
 #[tactic(auto, using(crate::proofs::BookLaws::keeps_laws))]
 pub fn book_is_lawful()
     ensures { KeepsLaws books.book }
@@ -76,7 +77,8 @@ impl RuleCrate for Motion {
         breaks_afterbeat(newest, ex, voices, place)
     }
 
-    /// The column itself: for Q12 in three or four voices, for Q14 where a bar begins, from the fourth on.
+    /// The column itself: for Q12 in three or four voices, for Q14 where a bar begins, from the
+    /// fourth on.
     fn toll_places(toll: u8, ex: &Exercise, i: usize) -> LatePlaces {
         if toll == 12 {
             return LatePlaces::own(ex.voices >= 3, i);

@@ -7,7 +7,8 @@ use crate::rows::are_outer;
 use fux_grid::{Cell, Exercise};
 use rule_law::move_into_perfect;
 
-/// Whether two voices, but not the lowest with the highest, both rise or both fall into a perfect interval.
+/// Whether two voices, but not the lowest with the highest, both rise or both fall into a perfect
+/// interval.
 #[inline(always)]
 fn inner_move_into_perfect(ex: &Exercise, before: &[Cell], now: &[Cell], v: u8, w: u8) -> bool
     ensures { result ≡ words.inner_move_into_perfect ex.now before.now now.now v w }
@@ -18,14 +19,15 @@ fn inner_move_into_perfect(ex: &Exercise, before: &[Cell], now: &[Cell], v: u8, 
 /// 1 where they do, else 0.
 #[inline(always)]
 fn pays(ex: &Exercise, before: &[Cell], now: &[Cell], v: u8, w: u8) -> u32
-    ensures value { result ≡ (if words.inner_move_into_perfect ex.now before.now now.now v w then 1 else 0) }
+    ensures value { result ≡ (if words.inner_move_into_perfect ex.now before.now now.now v w then 1
+        else 0) }
     ensures bound { result ≤ 1 }
 {
     u32::from(inner_move_into_perfect(ex, before, now, v, w))
 }
 
-/// Q12: in three or four voices, how many pairs, but for the lowest with the highest voice, both rise or both fall into a perfect
-/// interval.
+/// Q12: in three or four voices, how many pairs, but for the lowest with the highest voice, both
+/// rise or both fall into a perfect interval.
 #[inline(always)]
 #[tactic(auto, unfolding(rule_law::specs::Voices::voice_pairs))]
 pub fn inner_moves(ex: &Exercise, before: &[Cell], now: &[Cell]) -> u32

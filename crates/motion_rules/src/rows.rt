@@ -88,7 +88,8 @@ fn pairs_alike(before: &[Cell], now: &[Cell]) -> u32
         + alike(before, now, 2, 3)
 }
 
-/// Whether a rule is broken at a column, whose cells are `now`, after the column whose cells are `before`.
+/// Whether a rule is broken at a column, whose cells are `now`, after the column whose cells are
+/// `before`.
 #[inline(always)]
 pub fn breaks(
     rule: u8,
@@ -99,7 +100,8 @@ pub fn breaks(
     latest: &Latest,
     now: &[Cell],
 ) -> bool
-    ensures { result ≡ rows.near_rows rule ex.now voices.bits i before.now latest.now.pitches now.now }
+    ensures { result ≡ rows.near_rows rule ex.now voices.bits i before.now latest.now.pitches
+        now.now }
 {
     let Some((v, w)) = pair_of(voices) else {
         return false;
@@ -114,7 +116,8 @@ pub fn breaks(
     }
 }
 
-/// For how many pairs Q11 stands at a column, whose cells are `now`, after the column whose cells are `before`.
+/// For how many pairs Q11 stands at a column, whose cells are `now`, after the column whose cells
+/// are `before`.
 #[inline(always)]
 pub fn cost(
     toll: u8,

@@ -12,7 +12,8 @@ use fux_grid::{Cell, Exercise, cell_of};
 use fux_pitch::{Interval, is_imperfect, reduce};
 use rule_law::{ColumnsAround, begins_bar, cells_behind, interval_of_cells};
 
-/// Whether the interval is imperfect and has so many degrees without its octaves: a third has 2, a sixth has 5.
+/// Whether the interval is imperfect and has so many degrees without its octaves: a third has 2, a
+/// sixth has 5.
 #[inline]
 fn is_imperfect_of(interval: Interval, degrees: u8) -> bool
     requires { IsShort interval }
@@ -40,7 +41,8 @@ pub(crate) fn ends_four_bars(i: usize) -> bool
     begins_bar(i) && i / 8 >= 3
 }
 
-/// The degrees of an imperfect interval without its octaves, of a third 2 and of a sixth 5; 0 of any other.
+/// The degrees of an imperfect interval without its octaves, of a third 2 and of a sixth 5; 0 of
+/// any other.
 #[inline]
 fn imperfect_degrees(interval: Interval) -> u8
     requires { IsShort interval }
@@ -69,7 +71,8 @@ fn imperfect_in(column: &[Cell], v: usize, w: usize) -> u8
     }
 }
 
-/// Whether two voices sound imperfect intervals of so many degrees at the beginnings of the three bars before column `i`.
+/// Whether two voices sound imperfect intervals of so many degrees at the beginnings of the three
+/// bars before column `i`.
 fn sound_before<C: ColumnsAround>(
     around: &C,
     ex: &Exercise,
@@ -79,15 +82,17 @@ fn sound_before<C: ColumnsAround>(
     w: usize,
 ) -> bool
     requires { ex.now.voices ≤ 4 }
-    ensures { (s : Columns) (first : ℕ) → C.show around.now ex.now s first → first ≤ i - 24 → i < length s →
-        result ≡ list_all (λ col. words.sound_imperfect degrees col v w) (three_bar_lines_at s i) }
+    ensures { (s : Columns) (first : ℕ) → C.show around.now ex.now s first → first ≤ i - 24 → i
+        < length s → result ≡ list_all (λ col. words.sound_imperfect degrees col v w)
+        (three_bar_lines_at s i) }
 {
     sound_imperfect(cells_behind(around, ex, i, 7), degrees, v, w)
         && sound_imperfect(cells_behind(around, ex, i, 15), degrees, v, w)
         && sound_imperfect(cells_behind(around, ex, i, 23), degrees, v, w)
 }
 
-/// 1 where two voices sound thirds there and at column `i`, whose cells are `now`, or sixths, else 0.
+/// 1 where two voices sound thirds there and at column `i`, whose cells are `now`, or sixths, else
+/// 0.
 #[inline(always)]
 fn keeps_on<C: ColumnsAround>(
     around: &C,
@@ -98,9 +103,9 @@ fn keeps_on<C: ColumnsAround>(
     w: usize,
 ) -> u32
     requires { ex.now.voices ≤ 4 }
-    ensures value { (s : Columns) (first : ℕ) → C.show around.now ex.now s first → first ≤ i - 24 → i < length s
-        → now.now ≡ slice_index_or s i []
-        → result ≡ (if words.keep_on (four_bar_lines_at s i) v w then 1 else 0) }
+    ensures value { (s : Columns) (first : ℕ) → C.show around.now ex.now s first → first ≤ i - 24
+        → i < length s → now.now ≡ slice_index_or s i [] → result
+        ≡ (if words.keep_on (four_bar_lines_at s i) v w then 1 else 0) }
     ensures bound { result ≤ 1 }
 {
     if w >= now.len() {
@@ -116,11 +121,12 @@ fn keeps_on<C: ColumnsAround>(
     0
 }
 
-/// Q14: for how many pairs it stands at column `i`. The columns there and at the beginnings of the three bars before are read.
+/// Q14: for how many pairs it stands at column `i`. The columns there and at the beginnings of the
+/// three bars before are read.
 pub fn imperfect_runs<C: ColumnsAround>(around: &C, ex: &Exercise, i: usize) -> u32
     requires { ex.now.voices ≤ 4 }
-    ensures value { (s : Columns) (first : ℕ) → C.show around.now ex.now s first → first ≤ i - 24 → i < length s →
-        result ≡ reading_back words.imperfect_runs s i }
+    ensures value { (s : Columns) (first : ℕ) → C.show around.now ex.now s first → first ≤ i - 24
+        → i < length s → result ≡ reading_back words.imperfect_runs s i }
     ensures bound { result ≤ 6 }
 {
     if !ends_four_bars(i) {

@@ -1,5 +1,6 @@
-//! Cases of S22. After the exercise and its lines each case has the columns behind which other voices may show their cadence than before, with
-//! the numbers of these voices. The last one may be refused.
+//! Cases of S22. After the exercise and its lines each case has the columns behind which other
+//! voices may show their cadence than before, with the numbers of these voices. The last one may be
+//! refused.
 
 pub const CASES: &str = "\
 dorian 1 1 0

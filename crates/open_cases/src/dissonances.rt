@@ -1,5 +1,6 @@
-//! The cases. After the exercise and its lines each has the columns behind which something else is open than before: the pitch that a clash
-//! within the bar was reached from, and that of a ligature. The last one may be refused.
+//! The cases. After the exercise and its lines each has the columns behind which something else is
+//! open than before: the pitch that a clash within the bar was reached from, and that of a
+//! ligature. The last one may be refused.
 
 pub const CASES: &str = "\
 dorian 2 1 0

@@ -1,5 +1,5 @@
-//! Worked cases of what is open behind a column, with answers that were worked out by hand. They stand in a crate above the steps that
-//! they try, so that what carries the proofs is proved once.
+//! Worked cases of what is open behind a column, with answers that were worked out by hand. They
+//! stand in a crate above the steps that they try, so that what carries the proofs is proved once.
 #![tactic(auto)]
 
 #[cfg(test)]

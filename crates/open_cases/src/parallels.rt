@@ -1,5 +1,5 @@
-//! The cases of S18. After the exercise and its lines each has the columns behind which other pitches are kept than before, for each voice. The
-//! last one may be refused.
+//! The cases of S18. After the exercise and its lines each has the columns behind which other
+//! pitches are kept than before, for each voice. The last one may be refused.
 
 pub const CASES: &str = "\
 dorian 2 1 0

@@ -1,5 +1,6 @@
-//! Cases of the runs of thirds and sixths. After the exercise and its lines each case has the columns behind which other runs are kept than
-//! before, with all that are kept, and those that pay.
+//! Cases of the runs of thirds and sixths. After the exercise and its lines each case has the
+//! columns behind which other runs are kept than before, with all that are kept, and those that
+//! pay.
 
 pub const CASES: &str = "\
 dorian 1 1 0

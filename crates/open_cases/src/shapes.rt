@@ -1,5 +1,5 @@
-//! Cases of the open shapes. After the exercise and its lines each case has the columns behind which other shapes are open than before, with
-//! the bits of these. The last one may be refused.
+//! Cases of the open shapes. After the exercise and its lines each case has the columns behind
+//! which other shapes are open than before, with the bits of these. The last one may be refused.
 
 pub const CASES: &str = "\
 dorian 5 1 0

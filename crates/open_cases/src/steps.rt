@@ -15,7 +15,8 @@ use std::fmt::Write;
 use std::process::Abort;
 use std::test::Fail;
 
-/// The columns behind which something else is kept than before, and those that pay, up to one that is refused.
+/// The columns behind which something else is kept than before, and those that pay, up to one that
+/// is refused.
 fn changes<P: Told>(alloc: Global, ex: &Exercise, score: &Score) -> Result<String, Fail> {
     let mut text = String::new(alloc);
     let mut kept = P::none();
@@ -38,7 +39,8 @@ fn changes<P: Told>(alloc: Global, ex: &Exercise, score: &Score) -> Result<Strin
     Ok(text)
 }
 
-/// Compares the changes of each case of a part with what they should be, and with none where its species is one of several.
+/// Compares the changes of each case of a part with what they should be, and with none where its
+/// species is one of several.
 fn stand<P: Told>(
     rt: &impl Abort,
     alloc: Global,

@@ -1,5 +1,6 @@
-//! The cases of S19 and S21. After the exercise and its lines each has the columns behind which something else is kept than before: that a note
-//! started late, or nothing. The last one may be refused.
+//! The cases of S19 and S21. After the exercise and its lines each has the columns behind which
+//! something else is kept than before: that a note started late, or nothing. The last one may be
+//! refused.
 
 pub const CASES: &str = "\
 dorian 4 1 0

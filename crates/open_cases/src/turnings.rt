@@ -1,5 +1,6 @@
-//! The cases of S8. After the exercise and its lines each has the columns behind which something else is kept than before: the newest note, the
-//! way to it and the latest turning note. The last one may be refused.
+//! The cases of S8. After the exercise and its lines each has the columns behind which something
+//! else is kept than before: the newest note, the way to it and the latest turning note. The last
+//! one may be refused.
 
 pub const CASES: &str = "\
 dorian 2 1 0

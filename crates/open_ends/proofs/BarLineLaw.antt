@@ -1,6 +1,6 @@
--- At the beginning of a bar, what is kept of the columns before it are the perfect intervals at the beginning of the bar
--- before, if no note since then hides them (`kept-at_bar`). In a lawful setting the species voice doesn't arrive from
--- them in parallel (`never_arrives`).
+-- At the beginning of a bar, what is kept of the columns before it are the perfect intervals at the
+-- beginning of the bar before, if no note since then hides them (`kept-at_bar`). In a lawful
+-- setting the species voice doesn't arrive from them in parallel (`never_arrives`).
 use Rattle.std.specs.Prelude.{◌≡◌, ℕ, zero, suc, ◌+◌, ◌%◌, ◌<◌, ◌≤◌, ◌==◌, ◌&&◌, ◌||◌, Bool, true, false, nat_le, nat_lt, List, [], ◌∷◌, ◌++◌, Option, Some, None, length, slice_index_or, if◌then◌else◌, refl}
 use Rattle.std.specs.List.{list_all, list_any}
 use Rattle.std.proofs.Common.{ap, sym, ◌∙◌, inl, inr, arith}

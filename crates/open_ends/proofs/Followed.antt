@@ -1,5 +1,6 @@
--- In a lawful setting no step of a part is refused, and each leads to what waits behind its column (`followed`): it is enough that its rule
--- isn't broken by what waited before each column. Of two parts that do the same both do (`both-followed`).
+-- In a lawful setting no step of a part is refused, and each leads to what waits behind its column
+-- (`followed`): it is enough that its rule isn't broken by what waited before each column. Of two
+-- parts that do the same both do (`both-followed`).
 use Rattle.std.specs.Prelude.{◌≡◌, ℕ, ◌+◌, ◌<◌, Bool, true, false, List, [], ◌∷◌, ◌++◌, Option, Some, None, length, reverse, slice_index_or, if◌then◌else◌, refl}
 use Rattle.std.proofs.Common.{ap, ap₂, sym, ◌∙◌, arith}
 use Rattle.std.proofs.lemmas.List.{get_or-append-add, length-append, length-reverse}

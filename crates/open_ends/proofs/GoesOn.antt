@@ -1,4 +1,5 @@
--- Each part of the open ends goes on through a lawful setting (`passing-followed` and so on), and so do all of them (`leads_on`).
+-- Each part of the open ends goes on through a lawful setting (`passing-followed` and so on), and
+-- so do all of them (`leads_on`).
 use Rattle.std.specs.Prelude.{◌≡◌, ◌≤◌, ◌<◌, ℕ, ◌+◌, ◌*◌, ◌&&◌, ◌||◌, Bool, true, false, List, [], ◌∷◌, ◌++◌, Option, Some, None, IsSomeAnd, length, slice_index_or, if◌then◌else◌, refl}
 use Rattle.std.specs.Option.{option_map}
 use Rattle.std.proofs.Common.{ap, ap₂, arith}

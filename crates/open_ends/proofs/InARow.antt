@@ -1,5 +1,6 @@
--- Three bars in a row are counted where the columns at the beginnings of the last three bars pass (`three_in_a_row`); a run goes on as it is
--- kept (`kept_goes_on`), and one of three bars is kept (`kept_three`).
+-- Three bars in a row are counted where the columns at the beginnings of the last three bars pass
+-- (`three_in_a_row`); a run goes on as it is kept (`kept_goes_on`), and one of three bars is kept
+-- (`kept_three`).
 use Rattle.std.specs.Prelude.{◌≡◌, ℕ, zero, suc, ◌+◌, ◌-◌, ◌*◌, ◌/◌, ◌%◌, ◌<◌, ◌≤◌, ◌≢◌, ◌==◌, ◌&&◌, Bool, true, false, nat_le, nat_lt, List, [], ◌∷◌, ◌++◌, drop, length, slice_index_or, take, if◌then◌else◌, refl}
 use Rattle.std.specs.List.{list_all}
 use Rattle.std.proofs.Common.{ap, sym, ◌∙◌, inl, inr, arith}

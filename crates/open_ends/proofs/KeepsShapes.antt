@@ -1,4 +1,5 @@
--- In a lawful setting no step is refused, and each leads to what is open behind its column (`shapes-followed`).
+-- In a lawful setting no step is refused, and each leads to what is open behind its column
+-- (`shapes-followed`).
 use Rattle.std.specs.Prelude.{◌≡◌, ℕ, ◌+◌, ◌≤◌, ◌==◌, ◌&&◌, Bool, true, false, not, List, [], ◌∷◌, ◌++◌, Some, None, length, nat_eq, bit_and, reverse, if◌then◌else◌, refl}
 use Rattle.std.specs.List.{starts_with}
 use Rattle.std.proofs.Common.{ap, sym, ◌∙◌, subst, arith}

@@ -1,5 +1,5 @@
--- At the beginning of a bar, a late start tells whether a note started in one of the three columns before it
--- (`late-at_bar`).
+-- At the beginning of a bar, a late start tells whether a note started in one of the three columns
+-- before it (`late-at_bar`).
 use Rattle.std.specs.Prelude.{◌≡◌, ℕ, suc, ◌%◌, ◌&&◌, ◌||◌, Bool, true, false, nat_lt, List, [], ◌∷◌, length, slice_index_or, refl}
 use Rattle.std.proofs.Common.{arith}
 use Rattle.std.proofs.lemmas.Bool.{eqb-true}

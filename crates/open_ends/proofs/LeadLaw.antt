@@ -1,5 +1,5 @@
--- In a lawful setting some voice may show its cadence behind each column of the last bar but one, and one that may ends on
--- the final where the last bar begins (`never_lacks`).
+-- In a lawful setting some voice may show its cadence behind each column of the last bar but one,
+-- and one that may ends on the final where the last bar begins (`never_lacks`).
 use Rattle.std.specs.Prelude.{◌≡◌, ℕ, zero, suc, ◌+◌, ◌-◌, ◌*◌, ◌%◌, ◌<◌, ◌≤◌, ◌==◌, ◌&&◌, Bool, true, false, not, nat_lt, List, [], ◌∷◌, Option, Some, None, length, slice_index_or, take, if◌then◌else◌, refl}
 use Rattle.std.specs.List.{list_all, list_any}
 use Rattle.std.proofs.Common.{ap, sym, ◌∙◌, inl, inr, arith, add-one}

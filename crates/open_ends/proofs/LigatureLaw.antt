@@ -1,4 +1,5 @@
--- In a lawful setting each ligature of the species voice that clashes at the beginning of a bar resolves (`resolved`).
+-- In a lawful setting each ligature of the species voice that clashes at the beginning of a bar
+-- resolves (`resolved`).
 use Rattle.std.specs.Prelude.{◌≡◌, ℕ, zero, suc, ◌+◌, ◌%◌, ◌<◌, ◌≤◌, ◌==◌, ◌&&◌, ◌||◌, Bool, true, false, not, nat_lt, List, [], ◌∷◌, Option, Some, None, drop, length, slice_index_or, if◌then◌else◌, refl}
 use Rattle.std.proofs.Common.{ap, sym, ◌∙◌, arith, add-one}
 use Rattle.std.proofs.lemmas.Bool.{eqb-true, ltb-true}
@@ -58,7 +59,8 @@ module _ (ex : Exercise) (valid : HasVoices ex) (s : Columns) (lawful : IsLawful
 
   -- ---- what waits
 
-  -- a ligature of this pitch that clashed at the beginning of its bar, if no more than the first half of it has come
+  -- a ligature of this pitch that clashed at the beginning of its bar, if no more than the first
+  -- half of it has come
   record IsWaiting (j : ℕ) (pitch : Pitch) : Type 0 where
     pub start : ℕ
     pub bar : begins_bar start ≡ true

@@ -1,5 +1,5 @@
--- In a lawful setting the species voice leaves no clash within a bar badly, and reaches none badly (`left_well`,
--- `reached_well`).
+-- In a lawful setting the species voice leaves no clash within a bar badly, and reaches none badly
+-- (`left_well`, `reached_well`).
 use Rattle.std.specs.Prelude.{◌≡◌, ℕ, zero, suc, ◌+◌, ◌-◌, ◌<◌, ◌≤◌, ◌&&◌, ◌||◌, Bool, true, false, not, List, [], ◌∷◌, Option, Some, None, is_some, drop, length, slice_index_or, if◌then◌else◌, refl}
 use Rattle.std.proofs.Common.{ap, sym, ◌∙◌, subst, inl, inr, arith, add-one}
 use Rattle.std.proofs.lemmas.Bool.{and_parts, cases_eq}
@@ -148,7 +148,8 @@ module _ (ex : Exercise) (valid : HasVoices ex) (s : Columns) (lawful : IsLawful
 
   -- ---- what waits
 
-  -- a note that began within a bar in a clash, after this pitch, and is the newest one of the first j columns
+  -- a note that began within a bar in a clash, after this pitch, and is the newest one of the first
+  -- j columns
   record IsWaiting (j : ℕ) (pitch : Pitch) : Type 0 where
     pub start : ℕ
     pub before_end : start < j

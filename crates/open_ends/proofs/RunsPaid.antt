@@ -1,5 +1,6 @@
--- After an orderly prefix a column that settles no strict break makes a link with the one before it, and settles no less than what the link
--- costs and what Q14 counts at the column, by its weight (`link_and_runs_are_paid`).
+-- After an orderly prefix a column that settles no strict break makes a link with the one before
+-- it, and settles no less than what the link costs and what Q14 counts at the column, by its weight
+-- (`link_and_runs_are_paid`).
 use Rattle.std.specs.Prelude.{◌≡◌, ℕ, ◌+◌, ◌-◌, ◌*◌, ◌<◌, ◌≤◌, ◌≢◌, ◌==◌, Bool, true, false, List, [], ◌∷◌, ◌++◌, Some, None, IsSomeAnd, length, slice_set, if◌then◌else◌, refl}
 use Rattle.std.specs.List.{list_any, sum_by}
 use Rattle.std.proofs.Common.{ap, sym, ◌∙◌, inl, inr, subst, add-one, arith}

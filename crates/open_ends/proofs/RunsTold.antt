@@ -1,4 +1,5 @@
--- From prefix to prefix each step leads to what is kept behind its column, and tells what Q14 counts there (`tells_runs`).
+-- From prefix to prefix each step leads to what is kept behind its column, and tells what Q14
+-- counts there (`tells_runs`).
 use Rattle.std.specs.Prelude.{◌≡◌, ℕ, ◌+◌, ◌-◌, ◌*◌, ◌%◌, ◌<◌, ◌≤◌, ◌&&◌, ◌||◌, Bool, true, false, nat_le, List, [], ◌∷◌, ◌++◌, length, reverse, if◌then◌else◌, refl}
 use Rattle.std.specs.List.{list_all}
 use Rattle.std.proofs.Common.{ap, sym, ◌∙◌, arith}

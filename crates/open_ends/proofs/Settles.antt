@@ -1,5 +1,5 @@
--- After each prefix of a lawful setting its next column settles what it costs with the one before it, and what the kept tolls cost there
--- (`settles`).
+-- After each prefix of a lawful setting its next column settles what it costs with the one before
+-- it, and what the kept tolls cost there (`settles`).
 use Rattle.std.specs.Prelude.{◌≡◌, ◌≤◌, ◌<◌, ℕ, suc, ◌+◌, ◌*◌, false, [], ◌∷◌, ◌++◌, List, IsSomeAnd, length, reverse, slice_index_or, refl}
 use Rattle.std.proofs.Common.{ap, append_assoc, sym, ◌∙◌, subst, arith}
 use Rattle.std.proofs.lemmas.List.{length-append, reverse-append, reverse-reverse, take-append-le, take_all, get_or-append-add}

@@ -1,5 +1,5 @@
--- In a lawful setting a free voice sounds on from its latest note (`sounds_on_in`). A start is the latest note, and other
--- cells leave it (`previous-start`, `previous-no_start`).
+-- In a lawful setting a free voice sounds on from its latest note (`sounds_on_in`). A start is the
+-- latest note, and other cells leave it (`previous-start`, `previous-no_start`).
 use Rattle.std.specs.Prelude.{◌≡◌, ℕ, suc, ◌+◌, ◌-◌, ◌*◌, ◌<◌, true, false, List, [], ◌∷◌, ◌++◌, length, take, slice_index_or, refl}
 use Rattle.std.proofs.Common.{sym, ◌∙◌, subst, arith}
 use Rattle.std.proofs.lemmas.List.{take_all, take_more}

@@ -1,5 +1,5 @@
--- In a lawful setting what the species voice holds over a bar line in a clash is prepared, where S19 is asked
--- (`prepared`), and of a good size, where S21 is (`well_sized`).
+-- In a lawful setting what the species voice holds over a bar line in a clash is prepared, where
+-- S19 is asked (`prepared`), and of a good size, where S21 is (`well_sized`).
 use Rattle.std.specs.Prelude.{◌≡◌, ℕ, ◌-◌, ◌<◌, ◌==◌, ◌&&◌, ◌||◌, Bool, true, false, not, List, [], ◌∷◌, length, slice_index_or, refl}
 use Rattle.std.specs.List.{list_any}
 use Rattle.std.proofs.Common.{ap, sym, ◌∙◌, subst, inl, inr, arith}

@@ -1,5 +1,5 @@
--- What is kept of the notes of the species voice tells nothing wrong of them (`kept_of_line`). So by it no note of a
--- lawful setting turns badly, where S8 is asked (`never_turns_badly`).
+-- What is kept of the notes of the species voice tells nothing wrong of them (`kept_of_line`). So
+-- by it no note of a lawful setting turns badly, where S8 is asked (`never_turns_badly`).
 use Rattle.std.specs.Prelude.{◌≡◌, ℕ, zero, suc, ◌<◌, ◌==◌, ◌&&◌, ◌||◌, Bool, true, false, not, nat_le, nat_lt, List, [], ◌∷◌, Option, Some, None, is_some, length, slice_index_or, if◌then◌else◌, refl}
 use Rattle.std.specs.List.{list_any}
 use Rattle.std.proofs.Common.{ap, sym, ◌∙◌, subst, arith}

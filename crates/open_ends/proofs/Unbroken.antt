@@ -1,6 +1,6 @@
--- A lawful setting breaks neither S15 nor S20 where they are asked, whichever way two voices are named (`passing_kept`,
--- `resolution_kept`). What such a rule asks wherever a voice clashes with another one is kept by a voice that isn't clean
--- (`clashes_well`).
+-- A lawful setting breaks neither S15 nor S20 where they are asked, whichever way two voices are
+-- named (`passing_kept`, `resolution_kept`). What such a rule asks wherever a voice clashes with
+-- another one is kept by a voice that isn't clean (`clashes_well`).
 use Rattle.std.specs.Prelude.{◌≡◌, ℕ, zero, suc, ◌<◌, ◌≤◌, ◌==◌, ◌&&◌, ◌||◌, Bool, true, false, not, nat_lt, List, [], ◌∷◌, Option, Some, None, find, length, pos, if◌then◌else◌, refl}
 use Rattle.std.specs.List.{list_any}
 use Rattle.std.proofs.Common.{ℤ, ◌-ℤ◌, ap, sym, ◌∙◌, subst, inl, inr, arith}
@@ -90,7 +90,8 @@ module _ (ex : Exercise) (test : ℕ → ℕ → Bool)
       as_higher (nat_lt v ex.voices) (is_free ex w) (test w v) (is_free ex v) (test v w) (sym e ∙ none voices set)
       (lt-ltb v ex.voices there) free
 
-  -- a test that holds for no set, whichever way its voices are named, holds of no free voice and another one
+  -- a test that holds for no set, whichever way its voices are named, holds of no free voice and
+  -- another one
   pub two_voices : ex.voices ≤ 4 → (v w : ℕ) → v < ex.voices → w < ex.voices → (v ≡ w → ⊥) → is_free ex v ≡ true
       → test v w ≡ false
   unfolding forms.all_sets
@@ -178,7 +179,8 @@ clash-absent now v w beyond =
     at None = refl
     at (Some p) = refl
 
--- if a voice isn't clean, and what a rule asks is kept wherever it clashes with another voice, then it is kept
+-- if a voice isn't clean, and what a rule asks is kept wherever it clashes with another voice, then
+-- it is kept
 pub clashes_well : (now : List Cell) (v : ℕ) (kept : Bool)
     → ((w : ℕ) → w < length now → (v ≡ w → ⊥) → (clash now v w && not kept) ≡ false) → not (is_clean now v) ≡ true
     → kept ≡ true

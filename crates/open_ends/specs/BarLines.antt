@@ -1,4 +1,5 @@
--- Perfect intervals of the species voice at the beginning of a bar, which wait for the beginning of the next.
+-- Perfect intervals of the species voice at the beginning of a bar, which wait for the beginning of
+-- the next.
 use Rattle.std.specs.Prelude.{ℕ, ◌==◌, Bool, ◌&&◌, ◌||◌, nat_lt, List, [], ◌∷◌, Option, None, length, if◌then◌else◌}
 use Rattle.fux_pitch.specs.declared.pitch.Pitch.{Pitch}
 use Rattle.fux_grid.specs.declared.cell.Cell.{Cell}

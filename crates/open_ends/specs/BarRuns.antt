@@ -17,12 +17,14 @@ bar_lines (col ∷ behind) = if begins_bar (length behind) then col ∷ bar_line
 abbrev pub bars_after : ℕ → Bool → ℕ
 bars_after bars goes_on = if goes_on then (if nat_lt bars 3 then bars + 1 else 3) else 0
 
--- how many of some columns in a row, from the first one on, two voices sound with an imperfect interval of so many degrees; 3 at most
+-- how many of some columns in a row, from the first one on, two voices sound with an imperfect
+-- interval of so many degrees; 3 at most
 abbrev pub in_a_row : ℕ → List (List Cell) → ℕ → ℕ → ℕ
 in_a_row degrees [] v w = 0
 in_a_row degrees (col ∷ behind) v w = bars_after (in_a_row degrees behind v w) (sound_imperfect degrees col v w)
 
--- a run of so many bars, of which that of a column is the newest, may still come to four by the last bar
+-- a run of so many bars, of which that of a column is the newest, may still come to four by the
+-- last bar
 abbrev pub may_come_to_four : Exercise → ℕ → ℕ → Bool
 may_come_to_four ex i bars = nat_le (bar_of i + 4) (ex.bars + bars)
 

@@ -1,5 +1,5 @@
--- All that waits behind a column, and how the steps of a lawful setting lead from one column to the next and what they settle
--- (`LeadsThrough`).
+-- All that waits behind a column, and how the steps of a lawful setting lead from one column to the
+-- next and what they settle (`LeadsThrough`).
 use Rattle.std.specs.Prelude.{◌≡◌, ◌≤◌, ℕ, ◌+◌, List, [], ◌∷◌, ◌++◌, Option, Some, IsSomeAnd, length, reverse}
 use Rattle.std.specs.Option.{option_map}
 use Rattle.fux_grid.specs.declared.cell.Cell.{Cell}
@@ -63,14 +63,15 @@ rules_after =
     (both_after parallels.open_after (both_after suspensions.open_after
     (both_after cadences.open_after turns.open_after)))))
 
--- the same, with what the tolls that are followed cost there, by weight; none where some part refuses the column
+-- the same, with what the tolls that are followed cost there, by weight; none where some part
+-- refuses the column
 abbrev pub ends_after : Exercise → Sheet → Keeps → ℕ → OpenEnds → List Cell → List Cell → Option (OpenEnds × ℕ)
 ends_after ex sheet keeps i kept before now =
     option_map (λ ends. (ends, runs_paid sheet keeps i kept.second now))
     (both_after rules_after runs.open_after ex keeps i kept before now)
 
--- a column leads on from what is kept of a prefix to what is kept of the longer one, and settles at least what the kept tolls cost there,
--- beside what it and the one before it cost by themselves
+-- a column leads on from what is kept of a prefix to what is kept of the longer one, and settles at
+-- least what the kept tolls cost there, beside what it and the one before it cost by themselves
 pub record LeadsOn (ex : Exercise) (sheet : Sheet) (keeps : Keeps) (p : Columns) (col : List Cell) : Type 0 where
   pub cost : ℕ
   pub is : ends_after ex sheet keeps (length p) (ends_in ex keeps p) (newest_column (reverse p)) col

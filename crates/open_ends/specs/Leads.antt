@@ -27,7 +27,8 @@ is_read ex = is_asked ex cadence_rule
 abbrev pub is_before_last : Exercise → ℕ → Bool
 is_before_last ex i = bar_of i + 1 == ex.bars
 
--- the pitch has the letter of the mode's final, and so one degree below it is the leading note's: octaves are left out here
+-- the pitch has the letter of the mode's final, and so one degree below it is the leading note's:
+-- octaves are left out here
 abbrev pub has_final_letter : Exercise → Pitch → Bool
 has_final_letter ex p = degree_of p % 7 == final_of ex.mode
 
@@ -65,7 +66,8 @@ is_kept leads v = slice_index_or leads v false
 abbrev pub no_leads : Leads
 no_leads = false ∷ false ∷ false ∷ false ∷ []
 
--- a voice may after a column of the last bar but one: its bar began well, and each of its cells since leads on
+-- a voice may after a column of the last bar but one: its bar began well, and each of its cells
+-- since leads on
 abbrev pub may_show : Exercise → ℕ → Leads → List Cell → ℕ → Bool
 may_show ex i kept now v =
     (if begins_bar i then begins_well ex now v else is_kept kept v) && leads_on ex i now v
@@ -98,7 +100,7 @@ ends_on_final ex kept now v = is_kept kept v && starts_final ex (cell_in now v)
 abbrev pub some_ends : Exercise → Leads → List Cell → Bool
 some_ends ex kept now = list_any (ends_on_final ex kept now) (0 ∷ 1 ∷ 2 ∷ 3 ∷ [])
 
--- after a column no setting shows a cadence: it leaves no voice that may, or begins the last bar, and none ends on the
--- final there
+-- after a column no setting shows a cadence: it leaves no voice that may, or begins the last bar,
+-- and none ends on the final there
 abbrev pub lacks_all : Exercise → ℕ → Leads → List Cell → Bool
 lacks_all ex i kept now = leaves_none ex i kept now || (begins_last_bar ex i && not (some_ends ex kept now))

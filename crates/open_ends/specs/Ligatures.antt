@@ -17,8 +17,8 @@ use Rattle.open_ends.specs.Parts.{Step, Waits, where_read}
 abbrev pub held_in_clash : List Cell → ℕ → Option Pitch
 held_in_clash now v = if is_hold (cell_in now v) && not (is_clean now v) then pitch_of (cell_in now v) else None
 
--- the pitch of a ligature that clashed at the beginning of its bar, if the bar's middle hasn't come. The columns go from
--- the newest to the oldest
+-- the pitch of a ligature that clashed at the beginning of its bar, if the bar's middle hasn't
+-- come. The columns go from the newest to the oldest
 abbrev pub ligature_in : List (List Cell) → ℕ → Option Pitch
 ligature_in [] v = None
 ligature_in (col ∷ behind) v =

@@ -1,5 +1,5 @@
--- What is kept of the notes of the species voice: the newest one, the way of the move to it, and the latest turning
--- note, each as far as S8 may come to ask for it.
+-- What is kept of the notes of the species voice: the newest one, the way of the move to it, and
+-- the latest turning note, each as far as S8 may come to ask for it.
 use Rattle.std.specs.Prelude.{ℕ, ◌+◌, ◌-◌, ◌==◌, Bool, false, not, ◌&&◌, ◌||◌, nat_le, pos, unsigned_abs, List, [], ◌∷◌, length, Option, Some, None, is_some, if◌then◌else◌}
 use Rattle.std.specs.List.{list_any}
 use Rattle.std.specs.Option.{option_map_or}
@@ -52,7 +52,8 @@ turns_back kept now = holds_of (goes_back kept.way) (move_from kept.newest now)
 abbrev pub semitones_between : Pitch → Pitch → ℕ
 semitones_between p q = semitones_without_sign (interval_between p q)
 
--- a note starts by which the newest one becomes a turning note, six semitones from the turning note that is kept
+-- a note starts by which the newest one becomes a turning note, six semitones from the turning note
+-- that is kept
 abbrev pub turns_badly : OpenTurns → Cell → Bool
 turns_badly kept now =
     turns_back kept now && holds_of (λ k. semitones_without_sign k == 6) (interval_of_pitches kept.turning kept.newest)
@@ -61,8 +62,8 @@ turns_badly kept now =
 abbrev pub is_near_end : Exercise → ℕ → Bool
 is_near_end ex i = nat_le (columns_in ex - i) 32
 
--- the mode has a pitch: it is in the gamut of the last bar, which has the notes of all others. What the mode raises
--- there counts near the end alone
+-- the mode has a pitch: it is in the gamut of the last bar, which has the notes of all others. What
+-- the mode raises there counts near the end alone
 abbrev pub is_in_mode : Exercise → ℕ → Pitch → Bool
 is_in_mode ex i p = is_in_gamut ex.mode 1 1 p && (is_near_end ex i || not (int_eq (alter_of p) (pos 1)))
 
@@ -74,8 +75,8 @@ is_in_reach ex p = list_any (λ line. (line.voice == ex.species_voice) && is_bet
 abbrev pub may_sound : Exercise → ℕ → ℕ → Bool
 may_sound ex i key = option_map_or (λ p. is_in_mode ex i p && is_in_reach ex p) (spelled key) false
 
--- if the voice turns back at a note that it comes to, it may come to one six semitones off: above a note that it fell
--- to, below one that it rose to
+-- if the voice turns back at a note that it comes to, it may come to one six semitones off: above a
+-- note that it fell to, below one that it rose to
 abbrev pub has_tritone : Exercise → ℕ → Way → Pitch → Bool
 has_tritone ex i Falls p = may_sound ex i (unsigned_abs (key_of p) + 6)
 has_tritone ex i Level p = false
@@ -91,14 +92,15 @@ abbrev pub while_near : Option Pitch → Pitch → Option Pitch
 while_near None c = None
 while_near (Some p) c = if nat_le (semitones_between p c) 6 then Some p else None
 
--- what is kept of the latest turning note, once a further note starts in column i. It is let go where the new note lies
--- more than six semitones from it: unless a note is repeated, the next turning note lies farther still
+-- what is kept of the latest turning note, once a further note starts in column i. It is let go
+-- where the new note lies more than six semitones from it: unless a note is repeated, the next
+-- turning note lies farther still
 abbrev pub turning_after : Exercise → ℕ → OpenTurns → Pitch → Option Pitch
 turning_after ex i kept c =
     while_near (if turns_back kept (Start c) then with_tritone ex i kept.way kept.newest else kept.turning) c
 
--- what is kept, once a further note starts. The way to it is kept where a turning note is, or where the new note would
--- be if it became one
+-- what is kept, once a further note starts. The way to it is kept where a turning note is, or where
+-- the new note would be if it became one
 abbrev pub with_note : Exercise → ℕ → OpenTurns → Pitch → OpenTurns
 with_note ex i kept c = record {
   newest = Some c;

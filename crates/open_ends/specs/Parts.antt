@@ -1,5 +1,6 @@
--- What a part of the open ends tells: what waits behind some columns for later ones, and how the steps of a lawful setting lead from one
--- column to the next (`FollowsLawful`). Two parts are one, of which each goes on by itself.
+-- What a part of the open ends tells: what waits behind some columns for later ones, and how the
+-- steps of a lawful setting lead from one column to the next (`FollowsLawful`). Two parts are one,
+-- of which each goes on by itself.
 use Rattle.std.specs.Prelude.{◌≡◌, ◌≢◌, ◌<◌, ◌≤◌, ℕ, Bool, ◌&&◌, List, [], ◌∷◌, ◌++◌, Option, Some, None, length, reverse, if◌then◌else◌}
 use Rattle.fux_grid.specs.declared.cell.Cell.{Cell}
 use Rattle.fux_grid.specs.declared.exercise.Exercise.{Exercise}
@@ -12,7 +13,8 @@ use Rattle.open_ends.specs.declared.keeps.Keeps.{Keeps}
 abbrev pub Waits : Type 0 → Type 0
 Waits Part = Exercise → Keeps → Columns → Part
 
--- what waits behind one column more: by its place, what waited before it, the column before it, and the column; none where it breaks a rule
+-- what waits behind one column more: by its place, what waited before it, the column before it, and
+-- the column; none where it breaks a rule
 abbrev pub Step : Type 0 → Type 0
 Step Part = Exercise → Keeps → ℕ → Part → List Cell → List Cell → Option Part
 
@@ -27,7 +29,8 @@ pub record HasVoices (ex : Exercise) : Type 0 where
   pub species_there : ex.species_voice < ex.voices
   pub differ : ex.species_voice ≢ ex.cantus_voice
 
--- from prefix to prefix of a lawful setting no step is refused, and each leads to what waits behind its column
+-- from prefix to prefix of a lawful setting no step is refused, and each leads to what waits behind
+-- its column
 pub record FollowsLawful {Part : Type 0} (ex : Exercise) (nothing : Part) (waits : Columns → Part)
     (after : ℕ → Part → List Cell → List Cell → Option Part) : Type 0 where
   pub first : waits [] ≡ nothing

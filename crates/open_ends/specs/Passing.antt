@@ -19,8 +19,8 @@ use Rattle.open_ends.specs.Parts.{Step, Waits, where_read}
 abbrev pub begins_in_clash : ℕ → List Cell → ℕ → Bool
 begins_in_clash i now v = not (begins_bar i) && starts (cell_in now v) && not (is_clean now v)
 
--- the pitch that the voice sounded before its newest note, if that note began within a bar in a clash. The columns go
--- from the newest to the oldest
+-- the pitch that the voice sounded before its newest note, if that note began within a bar in a
+-- clash. The columns go from the newest to the oldest
 abbrev pub passing_in : List (List Cell) → ℕ → Option Pitch
 passing_in [] v = None
 passing_in (col ∷ behind) v =
@@ -38,7 +38,8 @@ passing_after i waiting before now v =
 abbrev pub begins_cambiata : Option Pitch → Option Pitch → Option Pitch → Bool → Bool
 begins_cambiata previous here next clean = falls_by_step previous here && lies_above 2 here next && clean
 
--- as far as the next note tells, a note is good: a passing note, or in species 3 and 5 a neighbor or one in a cambiata
+-- as far as the next note tells, a note is good: a passing note, or in species 3 and 5 a neighbor
+-- or one in a cambiata
 abbrev pub may_be_good : ℕ → Option Pitch → Option Pitch → Option Pitch → Bool → Bool
 may_be_good species previous here next clean =
     is_passing previous here next
@@ -68,7 +69,8 @@ abbrev pub open_in : Waits OpenPassing
 open_in ex keeps p =
     if is_asked ex passing_rule then record { origin = passing_in (reverse p) ex.species_voice } else nothing
 
--- a column breaks S15 in every setting that goes on so: it leaves badly what waits, or reaches a clash badly
+-- a column breaks S15 in every setting that goes on so: it leaves badly what waits, or reaches a
+-- clash badly
 abbrev pub breaks_passing : Exercise → ℕ → OpenPassing → List Cell → List Cell → Bool
 breaks_passing ex i waiting before now =
     is_left_badly (species_in ex ex.species_voice) waiting.origin before now ex.species_voice

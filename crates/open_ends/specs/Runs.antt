@@ -45,7 +45,8 @@ runs_ended i kept now = if begins_bar i then come_to_four kept.pairs now else 0
 abbrev pub runs_paid : Sheet → Keeps → ℕ → OpenRuns → List Cell → ℕ
 runs_paid sheet keeps i kept now = if keeps.runs then runs_ended i kept now * weight_of sheet run_toll else 0
 
--- from prefix to prefix each step leads to what is kept behind its column, and tells what Q14 costs there without its weight
+-- from prefix to prefix each step leads to what is kept behind its column, and tells what Q14 costs
+-- there without its weight
 pub record TellsRuns (ex : Exercise) (p : Columns) (col : List Cell) : Type 0 where
   pub kept : runs_after ex (length p) (runs_in ex p) col ≡ runs_in ex (p ++ col ∷ [])
   pub ended : runs_ended (length p) (runs_in ex p) col ≡ cost_at run_toll ex (p ++ col ∷ []) (length p)

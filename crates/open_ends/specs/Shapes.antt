@@ -9,7 +9,8 @@ use Rattle.rhythm_cadence.specs.Parts.{shapes_after, shapes_begun}
 use Rattle.open_ends.specs.declared.shapes.OpenShapes.{OpenShapes}
 use Rattle.open_ends.specs.Parts.{Step, Waits}
 
--- one species is given, and it is the fifth: in the others the slot alone tells nearly all of a bar's shape
+-- one species is given, and it is the fifth: in the others the slot alone tells nearly all of a
+-- bar's shape
 abbrev pub is_florid : Exercise → Bool
 is_florid ex = not (is_mixed ex) && (ex.species == 5)
 
@@ -17,8 +18,8 @@ is_florid ex = not (is_mixed ex) && (ex.species == 5)
 abbrev pub nothing : OpenShapes
 nothing = record { possible = 0 }
 
--- what is open of the species voice behind some columns: the shapes that the letters of its newest bar begin, while that
--- bar isn't whole
+-- what is open of the species voice behind some columns: the shapes that the letters of its newest
+-- bar begin, while that bar isn't whole
 abbrev pub open_in : Waits OpenShapes
 open_in ex keeps p = record {
   possible = if is_florid ex && not (begins_bar (length p)) then shapes_begun ex ex.species_voice p else 0;

@@ -15,7 +15,8 @@ nothing = record { late_start = false }
 abbrev pub open_in : Waits OpenSuspensions
 open_in ex keeps p = record { late_start = is_read ex && starts_late_in (reverse p) ex.species_voice }
 
--- a column breaks S19 in every setting that goes on so: the species voice holds a note that isn't prepared
+-- a column breaks S19 in every setting that goes on so: the species voice holds a note that isn't
+-- prepared
 abbrev pub breaks_preparation : Exercise → ℕ → OpenSuspensions → List Cell → List Cell → Bool
 breaks_preparation ex i kept before now =
     is_read ex && is_unprepared_at i kept.late_start before now ex.species_voice

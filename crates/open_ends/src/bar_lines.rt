@@ -87,9 +87,11 @@ pub(crate) fn bar_line_after(
     }
 }
 
-/// Whether the interval between two pitches is a perfect one, and that between two voices equals it.
+/// Whether the interval between two pitches is a perfect one, and that between two voices equals
+/// it.
 fn is_equal_perfect(p: Option<Pitch>, q: Option<Pitch>, now: &[Cell], v: usize, w: usize) -> bool
-    ensures { result ≡ terms.equal_perfects (terms.interval_of_pitches p q) (terms.interval_in now.now v w) }
+    ensures { result ≡ terms.equal_perfects (terms.interval_of_pitches p q)
+        (terms.interval_in now.now v w) }
 {
     match (p, q, interval_in(now, v, w)) {
         (Some(p), Some(q), Some(to)) => equal_perfects(interval_of(p, q), to),
@@ -97,7 +99,8 @@ fn is_equal_perfect(p: Option<Pitch>, q: Option<Pitch>, now: &[Cell], v: usize, 
     }
 }
 
-/// Whether two voices have gone on from these pitches to others, from a perfect interval to an equal one.
+/// Whether two voices have gone on from these pitches to others, from a perfect interval to an
+/// equal one.
 fn arrive_from(kept: &[Option<Pitch>; 4], now: &[Cell], v: usize, w: usize) -> bool
     ensures { result ≡ words.arrive_from kept.now now.now v w }
 {

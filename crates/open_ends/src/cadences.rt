@@ -1,5 +1,6 @@
-//! The voices that may still show their cadence behind a column of the last bar but one: the beginning of the last bar decides of them. A step
-//! after which S22 would be strictly broken is refused.
+//! The voices that may still show their cadence behind a column of the last bar but one: the
+//! beginning of the last bar decides of them. A step after which S22 would be strictly broken is
+//! refused.
 
 ghost use Rattle.open_ends.specs.Cadences as words;
 
@@ -12,8 +13,9 @@ use fux_grid::{Cell, Exercise};
 /// The voices that may still show their cadence.
 #[derive(Clone, Copy, Debug, PartialEq, Eq)]
 pub struct OpenCadences {
-    /// For each voice, behind a column of the last bar but one, whether all that came of that bar leads to its cadence, but for octaves. No
-    /// voice is marked behind any other column, nor where S22 isn't asked.
+    /// For each voice, behind a column of the last bar but one, whether all that came of that bar
+    /// leads to its cadence, but for octaves. No voice is marked behind any other column, nor where
+    /// S22 isn't asked.
     pub leads: [bool; 4],
 }
 

@@ -34,7 +34,8 @@ pub type OpenRules = Both<
 /// What rules and tolls wait for.
 pub type OpenEnds = Both<OpenRules, OpenRuns>;
 
-/// What waits behind a column, and what the tolls that are followed cost there, by weight; none where no lawful setting goes on so.
+/// What waits behind a column, and what the tolls that are followed cost there, by weight; none
+/// where no lawful setting goes on so.
 pub fn ends_after(
     ex: &Exercise,
     sheet: &Sheet,
@@ -52,8 +53,10 @@ pub fn ends_after(
     Some((ends, runs_paid(sheet, keeps, i, &kept.second, now)))
 }
 
-/// From prefix to prefix of a lawful setting no step is refused, each leads to what is kept behind its column, and what it costs is paid by that
-/// column beside what this one and the one before cost by themselves: a theorem, which costs nothing when it's called.
+/// From prefix to prefix of a lawful setting no step is refused, each leads to what is kept behind
+/// its column, and what it costs is paid by that column beside what this one and the one before
+/// cost by themselves: a theorem, which costs nothing when it's called.
 pub fn lawful_steps_lead_on()
-    ensures { (ex : Exercise) (sheet : Sheet) (keeps : Keeps) → IsValid ex → LeadsThrough ex sheet keeps }
+    ensures { (ex : Exercise) (sheet : Sheet) (keeps : Keeps) → IsValid ex → LeadsThrough ex sheet
+        keeps }
 {}

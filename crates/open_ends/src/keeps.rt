@@ -1,6 +1,7 @@
 //! Which parts are kept.
 
-/// Which of the parts that many prefixes differ in are kept. What isn't kept is taken as unbroken, or as costing nothing.
+/// Which of the parts that many prefixes differ in are kept. What isn't kept is taken as unbroken,
+/// or as costing nothing.
 #[derive(Clone, Copy, Debug, PartialEq, Eq)]
 pub struct Keeps {
     /// The latest turning notes (S8).

@@ -59,7 +59,8 @@ fn starts_lead(ex: &Exercise, cell: Cell) -> bool
     }
 }
 
-/// Whether the cell of a voice at column `i` leaves room for the leading note, is its beginning, or holds it.
+/// Whether the cell of a voice at column `i` leaves room for the leading note, is its beginning, or
+/// holds it.
 fn leads_on(ex: &Exercise, i: usize, now: &[Cell], v: u8) -> bool
     ensures { result ≡ words.leads_on ex.now i now.now v }
 {

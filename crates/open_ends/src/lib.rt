@@ -1,5 +1,6 @@
-//! All that is kept of a prefix behind its last column, for what later columns decide: a step after which a rule would be strictly broken in
-//! every lawful setting is refused, and what the tolls that are followed cost is told. Each rule that waits is a part in a module of its own.
+//! All that is kept of a prefix behind its last column, for what later columns decide: a step after
+//! which a rule would be strictly broken in every lawful setting is refused, and what the tolls
+//! that are followed cost is told. Each rule that waits is a part in a module of its own.
 #![tactic(auto)]
 
 mod asked;

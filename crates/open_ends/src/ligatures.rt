@@ -14,7 +14,8 @@ use rule_law::{begins_bar, is_clean, lies_above, starts};
 /// A ligature of the species voice that waits for the middle of its bar.
 #[derive(Clone, Copy, Debug, PartialEq, Eq)]
 pub struct OpenLigature {
-    /// The pitch of a ligature that clashed at the beginning of its bar, until the column in which it has to resolve.
+    /// The pitch of a ligature that clashed at the beginning of its bar, until the column in which
+    /// it has to resolve.
     pub pitch: Option<Pitch>,
 }
 

@@ -17,12 +17,14 @@ pub enum Way {
     Rises,
 }
 
-/// The newest note, the way of the move to it, and the latest turning note, as far as S8 may come to ask for them.
+/// The newest note, the way of the move to it, and the latest turning note, as far as S8 may come
+/// to ask for them.
 #[derive(Clone, Copy, Debug, PartialEq, Eq)]
 pub struct OpenTurns {
     pub newest: Option<Pitch>,
     pub way: Way,
-    /// None once the voice is more than six semitones away, or if it can't come to a note six semitones off.
+    /// None once the voice is more than six semitones away, or if it can't come to a note six
+    /// semitones off.
     pub turning: Option<Pitch>,
 }
 
@@ -94,7 +96,8 @@ fn semitones_between(p: Pitch, q: Pitch) -> u16
     interval_of(p, q).semitones.unsigned_abs()
 }
 
-/// S8: whether a note starts by which the newest one becomes a turning note, six semitones from the one before it.
+/// S8: whether a note starts by which the newest one becomes a turning note, six semitones from the
+/// one before it.
 pub(crate) fn turns_badly(kept: &OpenTurns, now: Cell) -> bool
     ensures { result ≡ words.turns_badly kept.now now }
 {
@@ -113,7 +116,8 @@ fn is_near_end(ex: &Exercise, i: usize) -> bool
     (8 * usize::from(ex.bars)).saturating_sub(i) <= 32
 }
 
-/// Whether the mode has a pitch: the gamut of the last bar has those of all others. What the mode raises there counts near the end alone.
+/// Whether the mode has a pitch: the gamut of the last bar has those of all others. What the mode
+/// raises there counts near the end alone.
 fn is_in_mode(ex: &Exercise, i: usize, pitch: Pitch) -> bool
     ensures { result ≡ words.is_in_mode ex.now i pitch }
 {
@@ -140,7 +144,8 @@ fn may_sound(ex: &Exercise, i: usize, key: u8) -> bool
     }
 }
 
-/// Whether the voice, if it turns back at a note that it comes to, may come to one six semitones off.
+/// Whether the voice, if it turns back at a note that it comes to, may come to one six semitones
+/// off.
 fn has_tritone(ex: &Exercise, i: usize, way: Way, pitch: Pitch) -> bool
     ensures { result ≡ words.has_tritone ex.now i way pitch }
 {

@@ -7,7 +7,8 @@ use crate::runs::Run;
 use fux_grid::{Cell, Exercise};
 use motion_rules::sound_imperfect;
 
-/// Whether a run of so many bars, of which that of column `i` is the newest, may still come to four.
+/// Whether a run of so many bars, of which that of column `i` is the newest, may still come to
+/// four.
 fn may_come_to_four(ex: &Exercise, i: usize, bars: u8) -> bool
     ensures { result ≡ words.may_come_to_four ex.now i bars }
 {

@@ -1,5 +1,6 @@
-//! The perfect intervals of the species voice at the beginning of a bar that are still open behind a column: the beginning of the next bar
-//! decides of them. A step after which S18 would be strictly broken is refused.
+//! The perfect intervals of the species voice at the beginning of a bar that are still open behind
+//! a column: the beginning of the next bar decides of them. A step after which S18 would be
+//! strictly broken is refused.
 
 ghost use Rattle.open_ends.specs.Parallels as words;
 
@@ -10,8 +11,9 @@ use crate::part::OpenPart;
 use fux_grid::{Cell, Exercise};
 use fux_pitch::Pitch;
 
-/// The perfect intervals of the species voice at the beginning of the newest bar, while each note that the voice started since stays within two
-/// degrees of its pitch there: the pitch of each voice that takes part in one, and none of any voice otherwise.
+/// The perfect intervals of the species voice at the beginning of the newest bar, while each note
+/// that the voice started since stays within two degrees of its pitch there: the pitch of each
+/// voice that takes part in one, and none of any voice otherwise.
 #[derive(Clone, Copy, Debug, PartialEq, Eq)]
 pub struct OpenParallels {
     pub pitches: [Option<Pitch>; 4],

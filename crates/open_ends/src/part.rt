@@ -30,7 +30,8 @@ pub trait OpenPart: Copy {
     /// A number by which it may be looked up together with what has this number.
     fn key(&self, before: u64) -> u64;
 
-    /// What waits behind column `i`, where this waited before it; none where no lawful setting goes on so.
+    /// What waits behind column `i`, where this waited before it; none where no lawful setting goes
+    /// on so.
     fn after(
         ex: &Exercise,
         keeps: Keeps,
@@ -42,8 +43,8 @@ pub trait OpenPart: Copy {
         requires { i < 2040 }
         ensures { result ≡ open_after ex.now keeps i kept.now before.now now.now };
 
-    /// From prefix to prefix of a lawful setting no step is refused, and each leads to what waits behind its column: a theorem, which costs
-    /// nothing when it's called.
+    /// From prefix to prefix of a lawful setting no step is refused, and each leads to what waits
+    /// behind its column: a theorem, which costs nothing when it's called.
     fn lawful_steps_go_on()
         ensures { (ex : AnExercise) (keeps : WhatIsKept) → HasVoices ex
             → FollowsLawful ex nothing (open_in ex keeps) (open_after ex keeps) };

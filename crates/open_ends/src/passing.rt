@@ -16,7 +16,8 @@ use rule_law::{begins_bar, is_clean, lies_above, starts};
 /// A clash of the species voice that waits for the voice's next note.
 #[derive(Clone, Copy, Debug, PartialEq, Eq)]
 pub struct OpenPassing {
-    /// The pitch before the newest note, where that note began within a bar in a clash, and no note came after it.
+    /// The pitch before the newest note, where that note began within a bar in a clash, and no note
+    /// came after it.
     pub origin: Option<Pitch>,
 }
 
@@ -27,7 +28,8 @@ fn begins_in_clash(i: usize, now: &[Cell], v: usize) -> bool
     !begins_bar(i) && starts(cell_of(now, v)) && !is_clean(now, v)
 }
 
-/// The pitch before the newest note that began within a bar in a clash, where this one waited before the column.
+/// The pitch before the newest note that began within a bar in a clash, where this one waited
+/// before the column.
 fn passing_after(
     i: usize,
     waiting: Option<Pitch>,

@@ -1,4 +1,5 @@
-//! The runs of bars that two voices begin with thirds, or with sixths, while they may still come to four: Q14 is paid where they do.
+//! The runs of bars that two voices begin with thirds, or with sixths, while they may still come to
+//! four: Q14 is paid where they do.
 
 ghost use Rattle.std.specs.Prelude.{◌≡◌, ◌≤◌, ◌<◌, ◌^◌};
 ghost use Rattle.open_ends.specs.Runs as words;
@@ -11,8 +12,9 @@ use fux_grid::{Cell, Exercise};
 use penalty_sheet::{Sheet, weight};
 use rule_law::begins_bar;
 
-/// How many bars in a row two voices began with thirds, and how many with sixths: the newest bar is the last one, and more than 3 count as 3.
-/// None are counted that can't come to four by the last bar.
+/// How many bars in a row two voices began with thirds, and how many with sixths: the newest bar is
+/// the last one, and more than 3 count as 3. None are counted that can't come to four by the last
+/// bar.
 #[derive(Clone, Copy, Debug, PartialEq, Eq)]
 pub struct Run {
     pub thirds: u8,

@@ -1,5 +1,5 @@
-//! The bar shapes that the species voice may still have behind a column, in the fifth species: the rest of the bar decides of them. A step
-//! after which no shape is left is refused.
+//! The bar shapes that the species voice may still have behind a column, in the fifth species: the
+//! rest of the bar decides of them. A step after which no shape is left is refused.
 
 ghost use Rattle.std.specs.Prelude.{◌≡◌, ◌<◌};
 ghost use Rattle.open_ends.specs.Shapes as words;
@@ -14,8 +14,8 @@ use rule_law::begins_bar;
 /// The shapes that the species voice may still have in a bar that isn't whole.
 #[derive(Clone, Copy, Debug, PartialEq, Eq)]
 pub struct OpenShapes {
-    /// Bit k is shape k of the voice's species in the bar, in the order of `fux_grid::shapes_of`. No bit stands between two bars, nor where
-    /// shapes aren't followed.
+    /// Bit k is shape k of the voice's species in the bar, in the order of `fux_grid::shapes_of`.
+    /// No bit stands between two bars, nor where shapes aren't followed.
     pub possible: u16,
 }
 
@@ -26,7 +26,8 @@ fn is_florid(ex: &Exercise) -> bool
     !is_mixed(ex) && ex.species == 5
 }
 
-/// The shapes that the species voice may still have with a column, where these were possible before it in its bar.
+/// The shapes that the species voice may still have with a column, where these were possible before
+/// it in its bar.
 fn shapes_left(ex: &Exercise, i: usize, before: &OpenShapes, column: &[Cell]) -> u16
     requires { i < 2040 }
     ensures { result ≡ words.shapes_left ex.now i before.now column.now }

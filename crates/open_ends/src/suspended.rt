@@ -15,14 +15,16 @@ pub(crate) fn is_read(ex: &Exercise) -> bool
     is_asked(ex, 19) && matches!(species_of(ex, ex.species_voice), 4 | 5)
 }
 
-/// Whether column `i` stands at slot 5, 6 or 7, and a note of the voice started at one of these up to it, where `late` tells so of those before.
+/// Whether column `i` stands at slot 5, 6 or 7, and a note of the voice started at one of these up
+/// to it, where `late` tells so of those before.
 pub(crate) fn starts_late_after(i: usize, late: bool, now: &[Cell], v: usize) -> bool
     ensures { result ≡ words.starts_late_after i late now.now v }
 {
     slot_of(i) > 4 && (starts(cell_of(now, v)) || late)
 }
 
-/// Whether at the beginning of a bar the voice holds a note and clashes, and it started the note late or wasn't clean in the column before.
+/// Whether at the beginning of a bar the voice holds a note and clashes, and it started the note
+/// late or wasn't clean in the column before.
 pub(crate) fn is_unprepared_at(
     i: usize,
     late: bool,

@@ -1,5 +1,6 @@
-//! Whether the species voice may still hold its note over the next bar line in a clash: what the note's preparation in the bar before tells. A
-//! step after which S19 or S21 would be strictly broken is refused.
+//! Whether the species voice may still hold its note over the next bar line in a clash: what the
+//! note's preparation in the bar before tells. A step after which S19 or S21 would be strictly
+//! broken is refused.
 
 ghost use Rattle.std.specs.Prelude.{◌≡◌};
 ghost use Rattle.open_ends.specs.Suspensions as words;
@@ -14,7 +15,8 @@ use fux_grid::{Cell, Exercise};
 /// What the next bar line asks of the note that the species voice sounds.
 #[derive(Clone, Copy, Debug, PartialEq, Eq)]
 pub struct OpenSuspensions {
-    /// Whether the voice started a note at slot 5, 6 or 7 of the newest bar: held over the bar line, it may not clash there.
+    /// Whether the voice started a note at slot 5, 6 or 7 of the newest bar: held over the bar
+    /// line, it may not clash there.
     pub late_start: bool,
 }
 

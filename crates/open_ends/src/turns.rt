@@ -1,5 +1,5 @@
-//! The turning notes of the species voice that still matter behind a column: the next turning note decides of them. A step after which S8 would
-//! be strictly broken is refused.
+//! The turning notes of the species voice that still matter behind a column: the next turning note
+//! decides of them. A step after which S8 would be strictly broken is refused.
 
 ghost use Rattle.std.specs.Prelude.{◌≡◌};
 ghost use Rattle.open_ends.specs.Notes as notes;

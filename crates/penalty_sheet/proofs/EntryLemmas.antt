@@ -1,4 +1,5 @@
--- Where nothing is wrong with a table of weights, each number that is found in it is a weight (`weight_found`).
+-- Where nothing is wrong with a table of weights, each number that is found in it is a weight
+-- (`weight_found`).
 use Rattle.std.proofs.Common.{◌≡◌, ℕ, ◌≤◌, ℤ, pos, negsuc, Bool, true, false, List, Option, Some, None, nat_le, refl, sym, subst, ◌≤ℤ◌, arith, to_z, of_z, w64}
 use Rattle.std.proofs.lemmas.Bool.Decides.{nat_tests}
 use Rattle.std.proofs.lemmas.Int.{ints, to_z-of_z}

@@ -31,6 +31,7 @@ abbrev pub line_price : Option Relax → Price
 line_price None = Strict
 line_price (Some line) = Priced line.price
 
--- the price of a break of a rule by a set of voices in a bar: that of the first line that is for it; S1 to S3 are strict
+-- the price of a break of a rule by a set of voices in a bar: that of the first line that is for
+-- it; S1 to S3 are strict
 abbrev pub price_in : Exercise → ℕ → ℕ → ℕ → Price
 price_in ex rule voices bar = if nat_lt rule 4 then Strict else line_price (find (relaxes rule voices bar) ex.relax)

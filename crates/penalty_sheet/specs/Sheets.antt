@@ -1,4 +1,5 @@
--- What a text says of the weights: a sheet, or what is wrong with it. A document is what the crate `toml` says one is.
+-- What a text says of the weights: a sheet, or what is wrong with it. A document is what the crate
+-- `toml` says one is.
 use Rattle.std.specs.Prelude.{◌≡◌, ℕ, ◌+◌, ◌-◌, ◌≤◌, Bool, true, ◌&&◌, length, List, [], ◌∷◌, ◌++◌, ℤ, pos, negsuc, nat_le, nat_lt, if◌then◌else◌, map, codes, slice_index, slice_index_or, Option, Some, None, Result, Ok, Err}
 use Rattle.std.specs.Option.{option_and_then}
 use Rattle.std.specs.Fmt.{signed_decimal}

@@ -19,7 +19,8 @@ fn weights_sheet(alloc: Global, value: &Value) -> Result<Sheet, SheetFault>
     ensures ok { IfOk result (λ sheet. weights_said (Some (view value.now)) ≡ Ok sheet) }
     ensures fault { IfErr result (λ fault. fault ≢ SheetFault.Memory →
         weights_said (Some (view value.now)) ≡ Err fault) }
-    ensures ordered { result ≢ Err SheetFault.Memory → weights_ascend (Some (view value.now)) ≡ true }
+    ensures ordered { result ≢ Err SheetFault.Memory → weights_ascend (Some (view value.now))
+        ≡ true }
 {
     let table = match value.as_table() {
         Some(table) => table,
@@ -34,7 +35,8 @@ fn weights_sheet(alloc: Global, value: &Value) -> Result<Sheet, SheetFault>
 
 /// The value at a key.
 fn value_at<'a>(table: &'a Table, key: &str) -> Option<&'a Value>
-    ensures { option_map (λ value. view value.now) result ≡ get_member key.now (table_view table.now) }
+    ensures { option_map (λ value. view value.now) result ≡ get_member key.now
+        (table_view table.now) }
 {
     table.get(key)
 }
@@ -70,11 +72,13 @@ fn document(alloc: Global, bytes: &[u8]) -> Result<Table, SheetFault>
     }
 }
 
-/// Reads a sheet: a TOML document of at most 65,536 bytes whose one key is `weights`, a table with whole numbers from 0 to
-/// 10,000 for some of `Q1` to `Q20`. A toll that the table leaves out has the weight that it has in the default sheet.
+/// Reads a sheet: a TOML document of at most 65,536 bytes whose one key is `weights`, a table with
+/// whole numbers from 0 to 10,000 for some of `Q1` to `Q20`. A toll that the table leaves out has
+/// the weight that it has in the default sheet.
 pub fn read_sheet(alloc: Global, bytes: &[u8]) -> Result<Sheet, SheetFault>
     ensures ok { IfOk result (IsSheetOf bytes.now) }
-    ensures fault { IfErr result (λ fault. fault ≢ SheetFault.Memory → HasSheetFault bytes.now fault) }
+    ensures fault { IfErr result (λ fault. fault ≢ SheetFault.Memory → HasSheetFault bytes.now
+        fault) }
     // A sheet is refused for want of memory only.
     ensures only { (sheet : Sheet) → IsSheetOf bytes.now sheet →
         IfErr result (λ fault. fault ≡ SheetFault.Memory) }

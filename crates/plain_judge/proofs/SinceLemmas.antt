@@ -1,4 +1,5 @@
--- What is settled since an empty list is what is settled, and since a list without its last column what the column settles.
+-- What is settled since an empty list is what is settled, and since a list without its last column
+-- what the column settles.
 use Rattle.std.proofs.Common.{◌≡◌, ℕ, ◌+◌, ◌*◌, ◌&&◌, Bool, true, false, List, [], ◌∷◌, ◌++◌, length, refl, ap, sym, ◌∙◌, arith}
 use Rattle.std.specs.Prelude.{nat_lt, not, if◌then◌else◌}
 use Rattle.std.specs.List.{list_any, sum_by}

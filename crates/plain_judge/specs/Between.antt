@@ -57,7 +57,8 @@ abbrev pub toll_since : Exercise → Sheet → List (List Cell) → List (List C
 toll_since ex sheet p s i toll =
     if settled_since (is_cost_settled toll ex) p s i then cost_at toll ex s i * weight_of sheet toll else 0
 
--- the price of a relaxed break of a rule at a place for a set of voices, where it is settled in s, and not in p
+-- the price of a relaxed break of a rule at a place for a set of voices, where it is settled in s,
+-- and not in p
 abbrev pub price_since : Exercise → List (List Cell) → List (List Cell) → ℕ → ℕ → ℕ → ℕ
 price_since ex p s i rule voices =
     if settled_since (is_settled rule ex voices) p s i then price_read rule ex voices s i else 0

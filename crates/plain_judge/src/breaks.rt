@@ -11,7 +11,8 @@ use fux_grid::{Exercise, Score, VoiceSet};
 use fux_judge::{every_rule, every_set, is_broken_in};
 use rule_law::RuleSet;
 
-/// Whether a strict break of a rule at a place for a set of voices is settled in a score, and not in the earlier one.
+/// Whether a strict break of a rule at a place for a set of voices is settled in a score, and not
+/// in the earlier one.
 fn is_broken_at(
     rule: u8,
     ex: &Exercise,
@@ -24,7 +25,8 @@ fn is_broken_at(
     requires earlier { ForSome before (λ score. IsPart ex.now score.now) }
     requires part { IsPart ex.now score.now }
     requires place { i < length score.now.columns }
-    ensures { result ≡ broken_since rule ex.now voices.bits (columns_of (option_copied before.entry)) score.now.columns i }
+    ensures { result ≡ broken_since rule ex.now voices.bits
+        (columns_of (option_copied before.entry)) score.now.columns i }
 {
     if !is_settled_since(rule, ex, before, score, i, voices) {
         return false;
@@ -46,7 +48,8 @@ fn is_broken_somewhere(
     requires valid { IsValid ex.now }
     requires earlier { ForSome before (λ score. IsPart ex.now score.now) }
     requires part { IsPart ex.now score.now }
-    ensures { result ≡ somewhere_broken_since rule ex.now voices.bits (columns_of (option_copied before.entry)) score.now.columns }
+    ensures { result ≡ somewhere_broken_since rule ex.now voices.bits
+        (columns_of (option_copied before.entry)) score.now.columns }
 {
     for i in 0..score.len() {
         if is_broken_at(rule, ex, before, score, i, voices) {
@@ -61,7 +64,8 @@ fn is_broken_for_some(rule: u8, ex: &Exercise, before: Option<&Score>, score: &S
     requires valid { IsValid ex.now }
     requires earlier { ForSome before (λ score. IsPart ex.now score.now) }
     requires part { IsPart ex.now score.now }
-    ensures { result ≡ some_broken_since ex.now (columns_of (option_copied before.entry)) score.now.columns rule }
+    ensures { result ≡ some_broken_since ex.now (columns_of (option_copied before.entry))
+        score.now.columns rule }
 {
     for bits in every_set() {
         if is_broken_somewhere(rule, ex, before, score, VoiceSet { bits: *bits }) {
@@ -76,7 +80,8 @@ fn breaks_since(ex: &Exercise, before: Option<&Score>, score: &Score) -> RuleSet
     requires valid { IsValid ex.now }
     requires earlier { ForSome before (λ score. IsPart ex.now score.now) }
     requires part { IsPart ex.now score.now }
-    ensures { HasRules result.bits (some_broken_since ex.now (columns_of (option_copied before.entry)) score.now.columns) }
+    ensures { HasRules result.bits
+        (some_broken_since ex.now (columns_of (option_copied before.entry)) score.now.columns) }
 {
     let mut set = RuleSet::EMPTY;
     for rule in every_rule() {
@@ -95,8 +100,8 @@ pub fn settled_breaks(ex: &Exercise, score: &Score) -> RuleSet
     breaks_since(ex, None, score)
 }
 
-/// The rules of which the last column of a longer score, and none before it, settles a strict break: at some place, for
-/// some set of voices.
+/// The rules of which the last column of a longer score, and none before it, settles a strict
+/// break: at some place, for some set of voices.
 pub fn newly_broken(ex: &Exercise, prefix: &Score, longer: &Score) -> RuleSet
     requires valid { IsValid ex.now }
     requires prefix { IsPart ex.now prefix.now }

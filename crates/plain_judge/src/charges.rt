@@ -1,4 +1,5 @@
-//! What is paid of a score so far: its settled tolls, by their weights, and the prices of its settled relaxed breaks.
+//! What is paid of a score so far: its settled tolls, by their weights, and the prices of its
+//! settled relaxed breaks.
 
 ghost use Rattle.std.specs.Prelude.{◌≡◌, ◌<◌, ◌≤◌, ◌*◌, ◌+◌, if◌then◌else◌, length};
 ghost use Rattle.std.specs.List.{sum_by};
@@ -15,8 +16,8 @@ use fux_grid::{Exercise, Score, VoiceSet};
 use fux_judge::{cost_in, every_rule, every_set, every_toll, is_broken_in, is_cost_settled_in};
 use penalty_sheet::{Sheet, weight};
 
-/// Whether what a toll costs at a place is settled in an earlier score. It isn't where there is none, nor at a place that
-/// the score doesn't have.
+/// Whether what a toll costs at a place is settled in an earlier score. It isn't where there is
+/// none, nor at a place that the score doesn't have.
 fn is_settled_before(toll: u8, ex: &Exercise, before: Option<&Score>, i: usize) -> bool
     requires valid { IsValid ex.now }
     requires earlier { ForSome before (λ score. IsPart ex.now score.now) }
@@ -33,7 +34,8 @@ fn is_settled_before(toll: u8, ex: &Exercise, before: Option<&Score>, i: usize) 
     }
 }
 
-/// What a toll costs at a place, by its weight, where that is settled in a score, and not in the earlier one.
+/// What a toll costs at a place, by its weight, where that is settled in a score, and not in the
+/// earlier one.
 fn charge(
     toll: u8,
     ex: &Exercise,
@@ -48,7 +50,8 @@ fn charge(
     requires earlier { ForSome before (λ score. IsPart ex.now score.now) }
     requires part { IsPart ex.now score.now }
     requires place { i < length score.now.columns }
-    ensures value { result ≡ toll_since ex.now sheet.now (columns_of (option_copied before.entry)) score.now.columns i toll }
+    ensures value { result ≡ toll_since ex.now sheet.now (columns_of (option_copied before.entry))
+        score.now.columns i toll }
     ensures bound { result ≤ 281470681677825 }
 {
     if is_settled_before(toll, ex, before, i) {
@@ -66,7 +69,8 @@ fn tolls_at(ex: &Exercise, sheet: &Sheet, before: Option<&Score>, score: &Score,
     requires earlier { ForSome before (λ score. IsPart ex.now score.now) }
     requires part { IsPart ex.now score.now }
     requires place { i < length score.now.columns }
-    ensures value { result ≡ sum_by (toll_since ex.now sheet.now (columns_of (option_copied before.entry)) score.now.columns i) tolls_read }
+    ensures value { result ≡ sum_by (toll_since ex.now sheet.now (columns_of (option_copied before.entry))
+        score.now.columns i) tolls_read }
     ensures bound { result ≤ 5629413633556500 }
 {
     let mut sum = 0u64;
@@ -77,8 +81,8 @@ fn tolls_at(ex: &Exercise, sheet: &Sheet, before: Option<&Score>, score: &Score,
     sum
 }
 
-/// The price of a relaxed break of a rule at a place for a set of voices, where it is settled in a score, and not in the
-/// earlier one.
+/// The price of a relaxed break of a rule at a place for a set of voices, where it is settled in a
+/// score, and not in the earlier one.
 fn price_for(
     rule: u8,
     ex: &Exercise,
@@ -91,7 +95,8 @@ fn price_for(
     requires earlier { ForSome before (λ score. IsPart ex.now score.now) }
     requires part { IsPart ex.now score.now }
     requires place { i < length score.now.columns }
-    ensures value { result ≡ price_since ex.now (columns_of (option_copied before.entry)) score.now.columns i rule voices.bits }
+    ensures value { result ≡ price_since ex.now (columns_of (option_copied before.entry))
+        score.now.columns i rule voices.bits }
     ensures bound { result ≤ 10000 }
 {
     if !is_settled_since(rule, ex, before, score, i, voices) {
@@ -109,7 +114,8 @@ fn prices_of(rule: u8, ex: &Exercise, before: Option<&Score>, score: &Score, i: 
     requires earlier { ForSome before (λ score. IsPart ex.now score.now) }
     requires part { IsPart ex.now score.now }
     requires place { i < length score.now.columns }
-    ensures value { result ≡ sum_by (price_since ex.now (columns_of (option_copied before.entry)) score.now.columns i rule) all_sets }
+    ensures value { result ≡ sum_by (price_since ex.now (columns_of (option_copied before.entry))
+        score.now.columns i rule) all_sets }
     ensures bound { result ≤ 150000 }
 {
     let mut sum = 0u64;
@@ -126,7 +132,8 @@ fn prices_at(ex: &Exercise, before: Option<&Score>, score: &Score, i: usize) -> 
     requires earlier { ForSome before (λ score. IsPart ex.now score.now) }
     requires part { IsPart ex.now score.now }
     requires place { i < length score.now.columns }
-    ensures value { result ≡ prices_since ex.now (columns_of (option_copied before.entry)) score.now.columns i }
+    ensures value { result ≡ prices_since ex.now (columns_of (option_copied before.entry))
+        score.now.columns i }
     ensures bound { result ≤ 4200000 }
 {
     let mut sum = 0u64;
@@ -143,7 +150,8 @@ fn charges_at(ex: &Exercise, sheet: &Sheet, before: Option<&Score>, score: &Scor
     requires earlier { ForSome before (λ score. IsPart ex.now score.now) }
     requires part { IsPart ex.now score.now }
     requires place { i < length score.now.columns }
-    ensures value { result ≡ charges_since ex.now sheet.now (columns_of (option_copied before.entry)) score.now.columns i }
+    ensures value { result ≡ charges_since ex.now sheet.now
+        (columns_of (option_copied before.entry)) score.now.columns i }
     ensures bound { result ≤ 5629413637756500 }
 {
     tolls_at(ex, sheet, before, score, i) + prices_at(ex, before, score, i)
@@ -154,7 +162,8 @@ fn charges_of(ex: &Exercise, sheet: &Sheet, before: Option<&Score>, score: &Scor
     requires valid { IsValid ex.now }
     requires earlier { ForSome before (λ score. IsPart ex.now score.now) }
     requires part { IsPart ex.now score.now }
-    ensures { result ≡ paid_since ex.now sheet.now (columns_of (option_copied before.entry)) score.now.columns }
+    ensures { result ≡ paid_since ex.now sheet.now (columns_of (option_copied before.entry))
+        score.now.columns }
 {
     let mut sum = 0u64;
     for i in 0..score.len() {
@@ -164,13 +173,14 @@ fn charges_of(ex: &Exercise, sheet: &Sheet, before: Option<&Score>, score: &Scor
     sum
 }
 
-/// What a score costs so far: over all its places, what is settled of tolls and of prices. Of a whole score that is its
-/// penalty.
+/// What a score costs so far: over all its places, what is settled of tolls and of prices. Of a
+/// whole score that is its penalty.
 pub fn settled_charges(ex: &Exercise, sheet: &Sheet, score: &Score) -> u64
     requires valid { IsValid ex.now }
     requires part { IsPart ex.now score.now }
     ensures value { result ≡ charges_settled_in ex.now sheet.now score.now.columns }
-    ensures whole { length score.now.columns ≡ columns_in ex.now → result ≡ charges_of ex.now sheet.now score.now.columns }
+    ensures whole { length score.now.columns ≡ columns_in ex.now → result ≡ charges_of ex.now
+        sheet.now score.now.columns }
 {
     charges_of(ex, sheet, None, score)
 }

@@ -13,7 +13,8 @@ use fux_grid::{Exercise, Score, VoiceSet, bar_of};
 use fux_judge::is_settled_in;
 use penalty_sheet::{Price, price_at};
 
-/// Whether a rule is settled in an earlier score. Nothing is where there is none, nor at a place that it doesn't have.
+/// Whether a rule is settled in an earlier score. Nothing is where there is none, nor at a place
+/// that it doesn't have.
 fn is_settled_before(
     rule: u8,
     ex: &Exercise,
@@ -23,7 +24,8 @@ fn is_settled_before(
 ) -> bool
     requires valid { IsValid ex.now }
     requires earlier { ForSome before (λ score. IsPart ex.now score.now) }
-    ensures { result ≡ rules.is_settled rule ex.now voices.bits (columns_of (option_copied before.entry)) i }
+    ensures { result ≡ rules.is_settled rule ex.now voices.bits
+        (columns_of (option_copied before.entry)) i }
 {
     match before {
         Some(score) => {
@@ -49,8 +51,8 @@ pub(crate) fn is_settled_since(
     requires earlier { ForSome before (λ score. IsPart ex.now score.now) }
     requires part { IsPart ex.now score.now }
     requires place { i < length score.now.columns }
-    ensures { result ≡ settled_since (rules.is_settled rule ex.now voices.bits) (columns_of (option_copied before.entry))
-        score.now.columns i }
+    ensures { result ≡ settled_since (rules.is_settled rule ex.now voices.bits)
+        (columns_of (option_copied before.entry)) score.now.columns i }
 {
     if is_settled_before(rule, ex, before, i, voices) {
         return false;

@@ -1,5 +1,6 @@
-//! The search for the best setting by sharper floors, and how their prices are found. No clause speaks of prices: any are fair once they are
-//! capped, and so all that is proved here is what the search answers.
+//! The search for the best setting by sharper floors, and how their prices are found. No clause
+//! speaks of prices: any are fair once they are capped, and so all that is proved here is what the
+//! search answers.
 #![tactic(auto)]
 
 mod keys;

@@ -1,6 +1,8 @@
-//! Prices, found by rounds in which a case's strikes are charged more where the least way strikes a pitch more than four times, and less
-//! where it doesn't. Many prices come to the same sum from the beginning on. Those that are raised as far as this sum allows tell more of the
-//! later part of an exercise, where most pitches were struck four times already. No clause speaks of prices: any are fair once they are capped.
+//! Prices, found by rounds in which a case's strikes are charged more where the least way strikes a
+//! pitch more than four times, and less where it doesn't. Many prices come to the same sum from the
+//! beginning on. Those that are raised as far as this sum allows tell more of the later part of an
+//! exercise, where most pitches were struck four times already. No clause speaks of prices: any are
+//! fair once they are capped.
 
 use crate::ways::{Notes, Ways};
 use fux_pitch::Memory;
@@ -31,7 +33,8 @@ const PARTS_SHIFT: u32 = 4;
 /// How many prices a case has: one for each pitch of each of four voices.
 const WIDTH: usize = 4 * PITCHES;
 
-/// What is known of a case: its prices, the best so far, which way they went, the sum by the best ones, and how far above it the aim is.
+/// What is known of a case: its prices, the best so far, which way they went, the sum by the best
+/// ones, and how far above it the aim is.
 #[derive(Drop)]
 struct Bid {
     prices: Vec<i64>,
@@ -43,8 +46,8 @@ struct Bid {
     is_done: bool,
 }
 
-/// What is worked in a round: the least sums from the nodes to the end, where the case's keys were reached and where they weren't; and how
-/// often the least way strikes each pitch.
+/// What is worked in a round: the least sums from the nodes to the end, where the case's keys were
+/// reached and where they weren't; and how often the least way strikes each pitch.
 #[derive(Drop)]
 struct Round {
     sums: Vec<i64>,
@@ -185,7 +188,8 @@ impl Round {
         }
     }
 
-    /// Counts the strikes on the least way from a start on, of so many steps, and tells where that ends.
+    /// Counts the strikes on the least way from a start on, of so many steps, and tells where that
+    /// ends.
     fn count(
         &mut self,
         case: &Case<'_>,
@@ -232,7 +236,8 @@ struct Case<'a> {
     most: i64,
 }
 
-/// Where rounds begin: at a node, where the case's keys were reached or weren't, with so many strikes of each pitch that cost nothing.
+/// Where rounds begin: at a node, where the case's keys were reached or weren't, with so many
+/// strikes of each pitch that cost nothing.
 #[derive(Drop)]
 struct Start {
     node: usize,
@@ -324,7 +329,8 @@ impl Bid {
         }
     }
 
-    /// Takes the prices for the best so far, or goes back to these where nothing was gained for long.
+    /// Takes the prices for the best so far, or goes back to these where nothing was gained for
+    /// long.
     fn judge(&mut self, sum: i64) {
         if sum > self.sum {
             self.sum = sum;
@@ -424,7 +430,8 @@ impl Bid {
         Ok(later)
     }
 
-    /// Goes from the best prices towards these, as far as the sum from the beginning on stays above the floor.
+    /// Goes from the best prices towards these, as far as the sum from the beginning on stays above
+    /// the floor.
     fn lean(&mut self, case: &Case<'_>, round: &mut Round, start: &Start, later: &Bid, floor: i64) {
         for less in 0..PARTS {
             for place in 0..WIDTH {

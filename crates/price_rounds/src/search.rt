@@ -23,11 +23,12 @@ use tree_search::{Outcome, search_front};
 /// How many prefixes are opened at most before any price is sought: many an exercise needs no more.
 const FIRST_BUDGET: u32 = 32_768;
 
-/// How many are at most by the floors that keep least. These are made soonest, and often are enough.
+/// How many are at most by the floors that keep least. These are made soonest, and often are
+/// enough.
 const LEAST_BUDGET: u32 = 262_144;
 
-/// How many are at most by floors whose prices are raised. Where many prefixes have the floor of the best setting, these tell sooner which of
-/// them lead to none.
+/// How many are at most by floors whose prices are raised. Where many prefixes have the floor of
+/// the best setting, these tell sooner which of them lead to none.
 const RAISED_BUDGET: u32 = 131_072;
 
 /// The charges without prices, by which webs are made and prices are sought.
@@ -42,8 +43,8 @@ fn plain_charges(alloc: Global, space: &SpeciesSpace<'_>) -> Result<Charges, Mem
     Charges::new(alloc, space.sheet(), &[], voice, &keys)
 }
 
-/// The first leaf of least value, by floors whose prices are sought over a web, raised ones where they are wanted; by the space's own floors
-/// where there is no web.
+/// The first leaf of least value, by floors whose prices are sought over a web, raised ones where
+/// they are wanted; by the space's own floors where there is no web.
 fn search_woven(
     alloc: Global,
     space: &SpeciesSpace<'_>,
@@ -55,15 +56,20 @@ fn search_woven(
     requires valid { IsValid space.now.exercise }
     requires web { IfSome made.now (λ woven.
         IsWoven space.now.exercise space.now.sheet woven.keeps woven.web) }
-    ensures found { IfOk result (λ outcome.
-        IfFound outcome (IsFirstLeast (live_at space.now.exercise space.now.sheet) (columns_in space.now.exercise))) }
-    ensures nothing { IfOk result (λ outcome.
-        OnNothing outcome (HasNoLeaf (live_at space.now.exercise space.now.sheet) (columns_in space.now.exercise))) }
-    ensures bound { IfOk result (λ outcome.
-        IfSpent outcome (BoundsLeaves (live_at space.now.exercise space.now.sheet) (columns_in space.now.exercise))) }
+    ensures found { IfOk result
+        (λ outcome. IfFound outcome (IsFirstLeast (live_at space.now.exercise space.now.sheet)
+        (columns_in space.now.exercise))) }
+    ensures nothing { IfOk result
+        (λ outcome. OnNothing outcome (HasNoLeaf (live_at space.now.exercise space.now.sheet)
+        (columns_in space.now.exercise))) }
+    ensures bound { IfOk result
+        (λ outcome. IfSpent outcome (BoundsLeaves (live_at space.now.exercise space.now.sheet)
+        (columns_in space.now.exercise))) }
     ensures over { IfOk result (λ outcome. IsSpent outcome
-        → IsOverBudget (live_at space.now.exercise space.now.sheet) (columns_in space.now.exercise) budget) }
-    ensures agrees { IfOk result (AgreesWithAnswers (live_at space.now.exercise space.now.sheet) (columns_in space.now.exercise)) }
+        → IsOverBudget (live_at space.now.exercise space.now.sheet) (columns_in space.now.exercise)
+        budget) }
+    ensures agrees { IfOk result (AgreesWithAnswers (live_at space.now.exercise space.now.sheet)
+        (columns_in space.now.exercise)) }
 {
     let Some(woven) = made else {
         return search_unpriced(alloc, space, budget);
@@ -78,33 +84,44 @@ fn search_woven(
 /// The first leaf of least value, by floors that keep least.
 fn search_least(alloc: Global, space: &SpeciesSpace<'_>, budget: u32) -> Result<Outcome, Memory>
     requires { IsValid space.now.exercise }
-    ensures found { IfOk result (λ outcome.
-        IfFound outcome (IsFirstLeast (live_at space.now.exercise space.now.sheet) (columns_in space.now.exercise))) }
-    ensures nothing { IfOk result (λ outcome.
-        OnNothing outcome (HasNoLeaf (live_at space.now.exercise space.now.sheet) (columns_in space.now.exercise))) }
-    ensures bound { IfOk result (λ outcome.
-        IfSpent outcome (BoundsLeaves (live_at space.now.exercise space.now.sheet) (columns_in space.now.exercise))) }
+    ensures found { IfOk result
+        (λ outcome. IfFound outcome (IsFirstLeast (live_at space.now.exercise space.now.sheet)
+        (columns_in space.now.exercise))) }
+    ensures nothing { IfOk result
+        (λ outcome. OnNothing outcome (HasNoLeaf (live_at space.now.exercise space.now.sheet)
+        (columns_in space.now.exercise))) }
+    ensures bound { IfOk result
+        (λ outcome. IfSpent outcome (BoundsLeaves (live_at space.now.exercise space.now.sheet)
+        (columns_in space.now.exercise))) }
     ensures over { IfOk result (λ outcome. IsSpent outcome
-        → IsOverBudget (live_at space.now.exercise space.now.sheet) (columns_in space.now.exercise) budget) }
-    ensures agrees { IfOk result (AgreesWithAnswers (live_at space.now.exercise space.now.sheet) (columns_in space.now.exercise)) }
+        → IsOverBudget (live_at space.now.exercise space.now.sheet) (columns_in space.now.exercise)
+        budget) }
+    ensures agrees { IfOk result (AgreesWithAnswers (live_at space.now.exercise space.now.sheet)
+        (columns_in space.now.exercise)) }
 {
     let plain = plain_charges(alloc, space)?;
     let made = weave_first(alloc, space, &[], &plain)?;
     search_woven(alloc, space, &made, &plain, false, budget)
 }
 
-/// The first leaf of least value, by floors that keep as much as there is room for, at first with raised prices. Both go over one web.
+/// The first leaf of least value, by floors that keep as much as there is room for, at first with
+/// raised prices. Both go over one web.
 fn search_most(alloc: Global, space: &SpeciesSpace<'_>, budget: u32) -> Result<Outcome, Memory>
     requires { IsValid space.now.exercise }
-    ensures found { IfOk result (λ outcome.
-        IfFound outcome (IsFirstLeast (live_at space.now.exercise space.now.sheet) (columns_in space.now.exercise))) }
-    ensures nothing { IfOk result (λ outcome.
-        OnNothing outcome (HasNoLeaf (live_at space.now.exercise space.now.sheet) (columns_in space.now.exercise))) }
-    ensures bound { IfOk result (λ outcome.
-        IfSpent outcome (BoundsLeaves (live_at space.now.exercise space.now.sheet) (columns_in space.now.exercise))) }
+    ensures found { IfOk result
+        (λ outcome. IfFound outcome (IsFirstLeast (live_at space.now.exercise space.now.sheet)
+        (columns_in space.now.exercise))) }
+    ensures nothing { IfOk result
+        (λ outcome. OnNothing outcome (HasNoLeaf (live_at space.now.exercise space.now.sheet)
+        (columns_in space.now.exercise))) }
+    ensures bound { IfOk result
+        (λ outcome. IfSpent outcome (BoundsLeaves (live_at space.now.exercise space.now.sheet)
+        (columns_in space.now.exercise))) }
     ensures over { IfOk result (λ outcome. IsSpent outcome
-        → IsOverBudget (live_at space.now.exercise space.now.sheet) (columns_in space.now.exercise) budget) }
-    ensures agrees { IfOk result (AgreesWithAnswers (live_at space.now.exercise space.now.sheet) (columns_in space.now.exercise)) }
+        → IsOverBudget (live_at space.now.exercise space.now.sheet) (columns_in space.now.exercise)
+        budget) }
+    ensures agrees { IfOk result (AgreesWithAnswers (live_at space.now.exercise space.now.sheet)
+        (columns_in space.now.exercise)) }
 {
     let plain = plain_charges(alloc, space)?;
     let most = [Keeps::all(), Keeps::runs_alone(), Keeps::turns_alone()];
@@ -118,15 +135,20 @@ fn search_most(alloc: Global, space: &SpeciesSpace<'_>, budget: u32) -> Result<O
 /// The first leaf of least value, by floors that keep least, and then by those that keep most.
 fn search_by_prices(alloc: Global, space: &SpeciesSpace<'_>, budget: u32) -> Result<Outcome, Memory>
     requires { IsValid space.now.exercise }
-    ensures found { IfOk result (λ outcome.
-        IfFound outcome (IsFirstLeast (live_at space.now.exercise space.now.sheet) (columns_in space.now.exercise))) }
-    ensures nothing { IfOk result (λ outcome.
-        OnNothing outcome (HasNoLeaf (live_at space.now.exercise space.now.sheet) (columns_in space.now.exercise))) }
-    ensures bound { IfOk result (λ outcome.
-        IfSpent outcome (BoundsLeaves (live_at space.now.exercise space.now.sheet) (columns_in space.now.exercise))) }
+    ensures found { IfOk result
+        (λ outcome. IfFound outcome (IsFirstLeast (live_at space.now.exercise space.now.sheet)
+        (columns_in space.now.exercise))) }
+    ensures nothing { IfOk result
+        (λ outcome. OnNothing outcome (HasNoLeaf (live_at space.now.exercise space.now.sheet)
+        (columns_in space.now.exercise))) }
+    ensures bound { IfOk result
+        (λ outcome. IfSpent outcome (BoundsLeaves (live_at space.now.exercise space.now.sheet)
+        (columns_in space.now.exercise))) }
     ensures over { IfOk result (λ outcome. IsSpent outcome
-        → IsOverBudget (live_at space.now.exercise space.now.sheet) (columns_in space.now.exercise) budget) }
-    ensures agrees { IfOk result (AgreesWithAnswers (live_at space.now.exercise space.now.sheet) (columns_in space.now.exercise)) }
+        → IsOverBudget (live_at space.now.exercise space.now.sheet) (columns_in space.now.exercise)
+        budget) }
+    ensures agrees { IfOk result (AgreesWithAnswers (live_at space.now.exercise space.now.sheet)
+        (columns_in space.now.exercise)) }
 {
     match search_least(alloc, space, budget.min(LEAST_BUDGET))? {
         Outcome::Spent { .. } => search_most(alloc, space, budget),
@@ -134,21 +156,27 @@ fn search_by_prices(alloc: Global, space: &SpeciesSpace<'_>, budget: u32) -> Res
     }
 }
 
-/// The first leaf of least value, by floors that know of gauges beforehand: of a pitch that is struck often, and of a climax that is struck
-/// again. Where the budget is enough the answer is that of any search; where it isn't, each leaf has at least the bound for a value.
+/// The first leaf of least value, by floors that know of gauges beforehand: of a pitch that is
+/// struck often, and of a climax that is struck again. Where the budget is enough the answer is
+/// that of any search; where it isn't, each leaf has at least the bound for a value.
 pub fn search_best(alloc: Global, space: &SpeciesSpace<'_>, budget: u32) -> Result<Outcome, Memory>
     requires { IsValid space.now.exercise }
-    ensures found { IfOk result (λ outcome.
-        IfFound outcome (IsFirstLeast (live_at space.now.exercise space.now.sheet) (columns_in space.now.exercise))) }
-    ensures nothing { IfOk result (λ outcome.
-        OnNothing outcome (HasNoLeaf (live_at space.now.exercise space.now.sheet) (columns_in space.now.exercise))) }
-    ensures bound { IfOk result (λ outcome.
-        IfSpent outcome (BoundsLeaves (live_at space.now.exercise space.now.sheet) (columns_in space.now.exercise))) }
+    ensures found { IfOk result
+        (λ outcome. IfFound outcome (IsFirstLeast (live_at space.now.exercise space.now.sheet)
+        (columns_in space.now.exercise))) }
+    ensures nothing { IfOk result
+        (λ outcome. OnNothing outcome (HasNoLeaf (live_at space.now.exercise space.now.sheet)
+        (columns_in space.now.exercise))) }
+    ensures bound { IfOk result
+        (λ outcome. IfSpent outcome (BoundsLeaves (live_at space.now.exercise space.now.sheet)
+        (columns_in space.now.exercise))) }
 
     // It ends wherever a front over the space's own floors does.
     ensures over { IfOk result (λ outcome. IsSpent outcome
-        → IsOverBudget (live_at space.now.exercise space.now.sheet) (columns_in space.now.exercise) budget) }
-    ensures agrees { IfOk result (AgreesWithAnswers (live_at space.now.exercise space.now.sheet) (columns_in space.now.exercise)) }
+        → IsOverBudget (live_at space.now.exercise space.now.sheet) (columns_in space.now.exercise)
+        budget) }
+    ensures agrees { IfOk result (AgreesWithAnswers (live_at space.now.exercise space.now.sheet)
+        (columns_in space.now.exercise)) }
 {
     match search_front(alloc, space, budget.min(FIRST_BUDGET))? {
         Outcome::Spent { .. } => search_by_prices(alloc, space, budget),

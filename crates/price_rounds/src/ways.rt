@@ -1,4 +1,5 @@
-//! The ways from column to column of what is kept, for the making of prices. No clause speaks of them.
+//! The ways from column to column of what is kept, for the making of prices. No clause speaks of
+//! them.
 
 use fux_grid::{Cell, Column, cell_of};
 use fux_pitch::{Memory, semitone};
@@ -12,7 +13,8 @@ use tree_search::Space;
 /// How many steps there may be.
 const MOST_STEPS: usize = 1_500_000;
 
-/// A step: where its column stands among all columns of all menus, the spot that it leads to, and what it costs.
+/// A step: where its column stands among all columns of all menus, the spot that it leads to, and
+/// what it costs.
 #[derive(Clone, Copy)]
 pub struct Step {
     pub choice: u32,
@@ -20,15 +22,16 @@ pub struct Step {
     pub cost: u32,
 }
 
-/// The notes that start in a column, as the places of their pitches, counted from 1, and the key of the voice that the cases are of; 0
-/// where none starts.
+/// The notes that start in a column, as the places of their pitches, counted from 1, and the key of
+/// the voice that the cases are of; 0 where none starts.
 #[derive(Clone, Copy)]
 pub struct Notes {
     pub places: [u8; 4],
     pub key: u8,
 }
 
-/// The ways through a web: for each of its spots, from the empty path on, the number of its first step; and the steps.
+/// The ways through a web: for each of its spots, from the empty path on, the number of its first
+/// step; and the steps.
 #[derive(Drop)]
 pub struct Ways {
     pub first: Vec<u32>,

@@ -44,7 +44,8 @@ pub fn weave(
     Ok(Some(Woven { keeps, web, ways }))
 }
 
-/// The web of the first of these choices of what is kept where there aren't too many ways, or of what is always kept.
+/// The web of the first of these choices of what is kept where there aren't too many ways, or of
+/// what is always kept.
 pub fn weave_first(
     alloc: Global,
     space: &SpeciesSpace<'_>,
@@ -69,7 +70,8 @@ pub fn weave_first(
 }
 
 impl Woven {
-    /// Prices for the cases of these charges, raised ones where they are wanted; none where there are too many ways.
+    /// Prices for the cases of these charges, raised ones where they are wanted; none where there
+    /// are too many ways.
     pub fn prices(
         &self,
         alloc: Global,

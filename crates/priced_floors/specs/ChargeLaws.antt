@@ -1,5 +1,6 @@
--- What the columns of a setting are charged is due: at most a debt and what its lines cost by the gauges (`charged_in_case`). Each
--- setting is of some case (`case_of_line`): no note of it is above the case (`none_above`), and one comes to it (`one_comes`).
+-- What the columns of a setting are charged is due: at most a debt and what its lines cost by the
+-- gauges (`charged_in_case`). Each setting is of some case (`case_of_line`): no note of it is above
+-- the case (`none_above`), and one comes to it (`one_comes`).
 use Rattle.std.specs.Prelude.{◌≡◌, ℕ, zero, suc, ◌+◌, ◌*◌, ◌<◌, ◌≤◌, ◌==◌, ℤ, pos, negsuc, ◌≤ℤ◌, ◌⊎◌, ◌||◌, int_le, nat_le, Bool, true, false, cond, List, [], ◌∷◌, Option, Some, None, length, reverse, sum, if◌then◌else◌, refl}
 use Rattle.std.specs.List.{filter_map, list_all, list_any, sum_by}
 use Rattle.std.specs.Ordering.{int_eq}
@@ -168,7 +169,8 @@ module _ (ex : Exercise) (charges : Charges) (sheet : Sheet) (fair : AreFairChar
       of_cell : ℕ → Cell → ℕ
       of_cell v c = note_charge (prices_of charges case v) (summit_of charges case v) (started_pitch c)
 
-  -- of a line within the case, at most a debt and what the gauges of its climax and of its strikes cost
+  -- of a line within the case, at most a debt and what the gauges of its climax and of its strikes
+  -- cost
   line_due : (v : ℕ) (cells : List Cell) → is_within (summit_of charges case v).high (pitches cells) ≡ true
       → charged (prices_of charges case v) (summit_of charges case v) (pitches cells)
       ≤ debt_of (prices_of charges case v) (summit_of charges case v) + charges.scale * cost_of_line sheet cells

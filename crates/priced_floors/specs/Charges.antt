@@ -115,7 +115,8 @@ IsBelow number most = IfSome number (λ n. n < most)
 
 -- ---- along a path
 
--- what a case charges for the column of a number, and whether that comes to the case's greatest keys
+-- what a case charges for the column of a number, and whether that comes to the case's greatest
+-- keys
 abbrev pub toll_in : Exercise → Charges → ℕ → ℕ → ℕ → Option ℕ
 toll_in ex charges case i k = toll_of ex charges case (slice_index_or (menu_of ex i) k [])
 

@@ -1,6 +1,6 @@
--- Charges that no line pays in vain: what a line is charged is at most a debt and what the gauges Q17 and Q20 cost it
--- (`charged_is_due`).
-use Rattle.std.specs.Prelude.{◌≡◌, ℕ, zero, suc, ◌+◌, ◌-◌, ◌*◌, ◌<◌, ◌≤◌, ◌==◌, ℤ, pos, negsuc, ◌≤ℤ◌, ◌<ℤ◌, ◌⊎◌, int_le, Bool, true, false, cond, ◌&&◌, min, List, [], ◌∷◌, sum, count_by, length, Option, Some, None, slice_index, if◌then◌else◌, nat_le}
+-- Charges that no line pays in vain: what a line is charged is at most a debt and what the gauges
+-- Q17 and Q20 cost it (`charged_is_due`).
+use Rattle.std.specs.Prelude.{◌≡◌, ℕ, zero, suc, ◌+◌, ◌-◌, ◌*◌, ◌<◌, ◌≤◌, ◌==◌, ℤ, pos, negsuc, ◌≤ℤ◌, ◌<ℤ◌, ◌⊎◌, int_le, Bool, true, false, cond, min, List, [], ◌∷◌, sum, count_by, Option, Some, None, slice_index, nat_le}
 use Rattle.std.specs.Int.{from_bool}
 use Rattle.std.specs.List.{sum_by}
 use Rattle.std.specs.Ordering.{int_eq}
@@ -160,7 +160,8 @@ first_more (suc k) place (price ∷ prices) p ps at few =
       first_more k (suc place) prices p ps (omega (arith, at)) few,
     )
 
--- Q20: the strikes of a line are charged at most what the first four of each pitch are, and what the others cost
+-- Q20: the strikes of a line are charged at most what the first four of each pitch are, and what
+-- the others cost
 strikes_due : (prices : List ℕ) (most : ℕ) → ((place : ℕ) → slice_index prices place ≤ most) → (ps : List Pitch)
     → strikes_charged prices ps ≤ first_strikes 0 prices ps + most * beyond_fourth ps
 strikes_due prices most fair [] = omega arith

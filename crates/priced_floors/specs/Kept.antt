@@ -26,14 +26,15 @@ abbrev pub column_kept : Exercise → ℕ → Kept → Option (List Cell)
 column_kept ex zero kept = None
 column_kept ex (suc i) kept = option_and_then (slice_get (menu_of ex i)) kept.column
 
--- what is kept behind a column, and what the step costs: what the kept tolls and the two columns do; none where one of them isn't there
+-- what is kept behind a column, and what the step costs: what the kept tolls and the two columns
+-- do; none where one of them isn't there
 abbrev pub kept_with : ℕ → Option (OpenEnds × ℕ) → Option ℕ → Option (Kept × ℕ)
 kept_with k None own = None
 kept_with k (Some ends) None = None
 kept_with k (Some ends) (Some own) = Some (record { column = Some k; ends = ends.0 }, own + ends.1)
 
--- the step of a number, whose column follows: it breaks no rule by what is kept, makes no strict break with the one before it, and
--- settles at least what it costs
+-- the step of a number, whose column follows: it breaks no rule by what is kept, makes no strict
+-- break with the one before it, and settles at least what it costs
 abbrev pub step_on : Exercise → Sheet → Keeps → ℕ → Kept → ℕ → Option (List Cell) → Option (Kept × ℕ)
 step_on ex sheet keeps i kept k before =
     kept_with k (ends_after ex sheet keeps i kept.ends (cells_of before) (slice_index_or (menu_of ex i) k []))

@@ -1,5 +1,5 @@
--- Steps of live paths are steps of what is kept (`live_step`), and a leaf's value is no less than what is settled of it and what its
--- lines cost (`leaf_value`).
+-- Steps of live paths are steps of what is kept (`live_step`), and a leaf's value is no less than
+-- what is settled of it and what its lines cost (`leaf_value`).
 use Rattle.std.specs.Prelude.{◌≡◌, ℕ, suc, ◌+◌, ◌<◌, ◌≤◌, true, nat_le, nat_lt, List, [], ◌∷◌, ◌++◌, Option, Some, None, IsSomeAnd, length, option_and_then, reverse, slice_get, slice_index_or, if◌then◌else◌, refl}
 use Rattle.std.proofs.Common.{ap, ap₂, append_assoc, sym, ◌∙◌, arith}
 use Rattle.std.proofs.lemmas.Grind.{reverse_onto}
@@ -78,7 +78,8 @@ newest_cells (col ∷ cols) = refl
 
 -- ---- steps
 
--- the step of a number goes on from what is kept of a path to what is kept of the longer one, and that has paid what the step settles
+-- the step of a number goes on from what is kept of a path to what is kept of the longer one, and
+-- that has paid what the step settles
 pub record IsStepOf (ex : Exercise) (sheet : Sheet) (keeps : Keeps) (path : List ℕ) (k : ℕ) : Type 0 where
   pub cost : ℕ
   pub is : step_of ex sheet keeps (length path) (kept_of ex keeps path) k ≡ Some (kept_of ex keeps (path ++ k ∷ []), cost)

@@ -64,8 +64,10 @@ fn capped(prices: &Prices, most: u32) -> Prices
 
 /// The prices of all voices, each no higher than this.
 fn all_capped(alloc: Global, prices: &[Prices], most: u32) -> Result<Vec<Prices>, Memory>
-    ensures scale { IfOk result (λ all. (v : ℕ) → (words.prices_in SCALE all.items v).scale ≡ SCALE) }
-    ensures low { IfOk result (λ all. (v place : ℕ) → slice_index (words.prices_in SCALE all.items v).strikes place ≤ most) }
+    ensures scale { IfOk result (λ all. (v : ℕ) → (words.prices_in SCALE all.items v).scale
+        ≡ SCALE) }
+    ensures low { IfOk result (λ all. (v place : ℕ)
+        → slice_index (words.prices_in SCALE all.items v).strikes place ≤ most) }
 {
     let mut all = Vec::with_capacity(alloc, prices.len())?;
     for its in prices {
@@ -84,7 +86,8 @@ fn charge_at(high: Option<u8>, charge: u32) -> u32
     }
 }
 
-/// The cases between these keys, of lines that go from above one of them up to the one before it, each charged this at its high end.
+/// The cases between these keys, of lines that go from above one of them up to the one before it,
+/// each charged this at its high end.
 fn cases_between(alloc: Global, keys: &[u8], charge: u32) -> Result<Vec<Summit>, Memory>
     ensures all { IfOk result (λ summits. AreCases summits.items) }
     ensures low { IfOk result (λ summits. AreTopsWithin charge summits.items) }
@@ -112,8 +115,8 @@ fn cases_between(alloc: Global, keys: &[u8], charge: u32) -> Result<Vec<Summit>,
 }
 
 impl Charges {
-    /// Charges that are due: each voice is charged these prices as far as strikes cost so much, and one voice by its greatest key as far
-    /// as climaxes do.
+    /// Charges that are due: each voice is charged these prices as far as strikes cost so much, and
+    /// one voice by its greatest key as far as climaxes do.
     pub fn new(
         alloc: Global,
         sheet: &Sheet,
@@ -183,7 +186,8 @@ impl Charges {
     fn note(&self, case: usize, v: u8, cell: Cell) -> u32
         requires few { case < CASES }
         requires small { AreSmallCharges MOST_CHARGE self.now }
-        ensures value { result ≡ words.note_charge (prices_of self.now case v) (summit_of self.now case v) (started_pitch cell) }
+        ensures value { result ≡ words.note_charge (prices_of self.now case v)
+            (summit_of self.now case v) (started_pitch cell) }
         ensures small { result ≤ 2 ^ 21 }
     {
         match cell {
@@ -234,8 +238,8 @@ fn comes_to(low: u8, note: Option<Pitch>) -> bool
 fn voice_charge(ex: &Exercise, charges: &Charges, case: usize, v: u8, cell: Cell) -> u32
     requires few { case < CASES }
     requires small { AreSmallCharges MOST_CHARGE charges.now }
-    ensures value { result ≡ (if words_of_voices.is_free ex.now v
-        then words.note_charge (prices_of charges.now case v) (summit_of charges.now case v) (started_pitch cell) else 0) }
+    ensures value { result ≡ (if words_of_voices.is_free ex.now v then words.note_charge
+        (prices_of charges.now case v) (summit_of charges.now case v) (started_pitch cell) else 0) }
     ensures small { result ≤ 2 ^ 21 }
 {
     if !is_free(ex, v) {
@@ -299,8 +303,8 @@ fn sum_of(prices: &[u32]) -> u64
 /// What a voice may be charged that isn't due.
 fn debt_of_voice(ex: &Exercise, charges: &Charges, case: usize, v: u8) -> u64
     requires few { case < CASES }
-    ensures value { result ≡ (if words_of_voices.is_free ex.now v
-        then fairness.debt_of (prices_of charges.now case v) (summit_of charges.now case v) else 0) }
+    ensures value { result ≡ (if words_of_voices.is_free ex.now v then fairness.debt_of
+        (prices_of charges.now case v) (summit_of charges.now case v) else 0) }
     ensures small { result ≤ 2 ^ 52 }
 {
     if !is_free(ex, v) {

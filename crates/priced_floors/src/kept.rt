@@ -2,7 +2,8 @@
 
 use open_ends::OpenEnds;
 
-/// The number of a path's last column in its menu, none of the empty path; and what waits behind it for later columns.
+/// The number of a path's last column in its menu, none of the empty path; and what waits behind it
+/// for later columns.
 #[derive(Clone, Copy, Debug, PartialEq, Eq)]
 pub struct Kept {
     pub column: Option<u16>,

@@ -1,4 +1,5 @@
-//! Floors of the settings of an exercise that know beforehand what repeated pitches and climaxes will cost.
+//! Floors of the settings of an exercise that know beforehand what repeated pitches and climaxes
+//! will cost.
 #![tactic(auto)]
 
 mod charges;

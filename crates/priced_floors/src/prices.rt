@@ -9,15 +9,16 @@ use melody_rules::place_of;
 /// How many places of pitches there are.
 pub const PITCHES: usize = 147;
 
-/// What each strike of a pitch is charged, by the pitch's place. Charges are in parts of a unit of penalty, and so many of these make one.
+/// What each strike of a pitch is charged, by the pitch's place. Charges are in parts of a unit of
+/// penalty, and so many of these make one.
 #[derive(Clone, Copy)]
 pub struct Prices {
     pub scale: u32,
     pub strikes: [u32; PITCHES],
 }
 
-/// The lines whose greatest key is no lower than a key and no higher than another, where there is one; and what each note at the higher
-/// one is charged.
+/// The lines whose greatest key is no lower than a key and no higher than another, where there is
+/// one; and what each note at the higher one is charged.
 #[derive(Clone, Copy)]
 pub struct Summit {
     pub low: u8,

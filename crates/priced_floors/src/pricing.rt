@@ -88,7 +88,8 @@ fn debts_of(alloc: Global, ex: &Exercise, charges: &Charges) -> Result<Vec<u64>,
 }
 
 impl<'a> PricedSpace<'a> {
-    /// The settings of a space's exercise with these charges, where so much is kept of what later columns decide.
+    /// The settings of a space's exercise with these charges, where so much is kept of what later
+    /// columns decide.
     pub fn new(
         alloc: Global,
         space: &'a SpeciesSpace<'a>,
@@ -135,9 +136,10 @@ impl<'a> PricedSpace<'a> {
     ) -> Option<(Kept, u32)>
         requires depth { depth < columns_in self.now.space.now.exercise }
         requires label { label < 8192 }
-        ensures { result ≡ words.kept_with label (ends_after self.now.space.now.exercise self.now.space.now.sheet self.now.keeps
-            depth kept.now.ends (cells_before prev.entry) next.now.items)
-            (link_of self.now.space.now.exercise self.now.space.now.sheet depth (given prev.entry) next.now.items) }
+        ensures { result ≡ words.kept_with label (ends_after self.now.space.now.exercise
+            self.now.space.now.sheet self.now.keeps depth kept.now.ends (cells_before prev.entry)
+            next.now.items) (link_of self.now.space.now.exercise self.now.space.now.sheet depth
+            (given prev.entry) next.now.items) }
     {
         let (ex, sheet) = (self.space.exercise(), self.space.sheet());
         let (ends, more) = ends_after(

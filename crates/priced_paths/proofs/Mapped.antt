@@ -1,5 +1,5 @@
--- On the way to a leaf each step is an edge of the leaf's case (`case_is_mapped`), so the numbers of the cases give
--- floors (`priced_floors`).
+-- On the way to a leaf each step is an edge of the leaf's case (`case_is_mapped`), so the numbers
+-- of the cases give floors (`priced_floors`).
 use Rattle.std.proofs.Common.{◌≡◌, ℕ, ◌+◌, ◌-◌, ◌*◌, ◌<◌, ◌≤◌, ◌||◌, ◌&&◌, nat_lt, nat_le, List, [], ◌∷◌, ◌++◌, length, Option, Some, None, option_map, option_and_then, Bool, true, false, refl, sym, ap, ap₂, subst, ◌∙◌, arith, append_assoc, append-nil, length-append, slice_get, slice_index_or, if◌then◌else◌}
 use Rattle.std.proofs.Math.Nat.{mul-add, mul-le-mul_left}
 use Rattle.std.proofs.lemmas.Bool.{and_from, and_parts, eq-eqb}

@@ -1,4 +1,5 @@
--- What holds of each of a list's entries holds with one more (`numbers_more`), or with one replaced (`standings_more`).
+-- What holds of each of a list's entries holds with one more (`numbers_more`), or with one replaced
+-- (`standings_more`).
 use Rattle.std.proofs.Common.{◌≡◌, ℕ, ◌+◌, ◌*◌, ◌^◌, ◌<◌, ◌≤◌, List, [], ◌∷◌, ◌++◌, length, Option, Some, None, ⊎_elim, refl, sym, subst, ◌∙◌, arith, slice_index_or, slice_set}
 use Rattle.std.specs.Prelude.{◌≢◌, IfSome}
 use Rattle.std.proofs.Math.ListN.{get_or-append}

@@ -1,5 +1,5 @@
--- Where a path leads with a step more (`spot-append`), what a web's edges are (`edge_parts`), and that a web is
--- sound (`sound_from_web`).
+-- Where a path leads with a step more (`spot-append`), what a web's edges are (`edge_parts`), and
+-- that a web is sound (`sound_from_web`).
 use Rattle.std.proofs.Common.{◌≡◌, ℕ, ◌+◌, ◌<◌, nat_lt, List, [], ◌∷◌, ◌++◌, Option, Some, None, option_and_then, Bool, true, false, refl, sym, ap, subst, ◌∙◌, arith, slice_get, slice_index_or, if◌then◌else◌, ⊎_elim}
 use Rattle.std.proofs.lemmas.Option.{slice_get_within}
 use Rattle.std.proofs.lemmas.Bool.{cases_lt}

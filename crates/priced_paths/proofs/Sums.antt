@@ -1,6 +1,5 @@
--- The sums of a path are those of its place (`priced_sum-at`), one without a spot has none (`priced_sum-none`), and
--- a place goes on along a path
--- (`place_on`).
+-- The sums of a path are those of its place (`priced_sum-at`), one without a spot has none
+-- (`priced_sum-none`), and a place goes on along a path (`place_on`).
 use Rattle.std.proofs.Common.{◌≡◌, ℕ, zero, suc, ◌+◌, ◌*◌, ◌<◌, ◌≤◌, ◌||◌, List, [], ◌∷◌, ◌++◌, length, Option, Some, None, option_map, Bool, false, refl, sym, ap, ap₂, subst, ◌∙◌, arith, length-append}
 use Rattle.std.proofs.lemmas.List.{get_or_past}
 use Rattle.floor_graphs.specs.Graphs.{units_of}

@@ -1,5 +1,5 @@
--- What a path is charged with a step more (`charged-append`), and that what goes on from a path has its steps
--- (`charged_start`).
+-- What a path is charged with a step more (`charged-append`), and that what goes on from a path has
+-- its steps (`charged_start`).
 use Rattle.std.proofs.Common.{◌≡◌, ℕ, ◌+◌, ◌||◌, suc, List, [], ◌∷◌, ◌++◌, length, Option, Some, None, Bool, true, false, refl, sym, ap, ◌∙◌, arith}
 use Rattle.priced_paths.specs.Tolls.{sum_of, charged_from, has_reached_from}
 

@@ -1,4 +1,5 @@
--- The web as a case charges it: a graph whose nodes are the spots, each where what is asked for was reached and where it wasn't.
+-- The web as a case charges it: a graph whose nodes are the spots, each where what is asked for was
+-- reached and where it wasn't.
 use Rattle.std.specs.Prelude.{ℕ, ◌+◌, ◌-◌, ◌*◌, ◌==◌, nat_lt, ◌&&◌, ◌||◌, Option, None, Bool, option_map, option_and_then, length, if◌then◌else◌}
 use Rattle.floor_graphs.specs.Graphs.{Rate}
 use Rattle.floor_graphs.specs.Numbers.{Step}

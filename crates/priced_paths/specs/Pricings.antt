@@ -10,7 +10,8 @@ pub record IsLiveNode (is_at : List ℕ → Type 0) (live : List ℕ → Option 
   pub at : is_at path
   pub is_live : IsSome (live path)
 
--- a child of a path is a step from what is kept of the path to what is kept of the child, and settles no less than the step
+-- a child of a path is a step from what is kept of the path to what is kept of the child, and
+-- settles no less than the step
 pub record IsPricedStep {Kept : Type 0} (kept : List ℕ → Kept) (settled : List ℕ → ℕ) (breadth : ℕ → ℕ)
     (step : ℕ → Kept → ℕ → Option (Kept × ℕ)) (path : List ℕ) (child : ℕ) : Type 0 where
   pub within : child < breadth (length path)
@@ -18,8 +19,9 @@ pub record IsPricedStep {Kept : Type 0} (kept : List ℕ → Kept) (settled : Li
   pub is_step : step (length path) (kept path) child ≡ Some (kept (path ++ child ∷ []), cost)
   pub paid : settled path + cost ≤ settled (path ++ child ∷ [])
 
--- a leaf is of a case: each step of its path may be made there, one of them does what is asked for, and what it has settled, at
--- the case's rate, with what it is charged is no more than its value with the debt
+-- a leaf is of a case: each step of its path may be made there, one of them does what is asked for,
+-- and what it has settled, at the case's rate, with what it is charged is no more than its value
+-- with the debt
 pub record IsOfCase (toll : ℕ → ℕ → Option ℕ) (reaches : ℕ → ℕ → Bool) (rate : Rate) (settled : ℕ) (path : List ℕ)
     (value : ℕ) : Type 0 where
   pub charged : ℕ
@@ -27,7 +29,8 @@ pub record IsOfCase (toll : ℕ → ℕ → Option ℕ) (reaches : ℕ → ℕ �
   pub reached : has_reached reaches path ≡ true
   pub due : rate.scale * settled + charged ≤ rate.scale * value + rate.debt
 
--- nothing is settled at first; each step on the way to a leaf is one from what is kept; and each leaf is of a case
+-- nothing is settled at first; each step on the way to a leaf is one from what is kept; and each
+-- leaf is of a case
 pub record IsPriced {Kept : Type 0} (live : List ℕ → Option ℕ) (height : ℕ) (kept : List ℕ → Kept)
     (settled : List ℕ → ℕ) (breadth : ℕ → ℕ) (step : ℕ → Kept → ℕ → Option (Kept × ℕ))
     (toll : ℕ → ℕ → ℕ → Option ℕ) (reaches : ℕ → ℕ → ℕ → Bool) (count : ℕ) (rate : ℕ → Rate) : Type 0 where

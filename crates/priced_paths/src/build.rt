@@ -16,7 +16,8 @@ const SEATS: usize = 65_536;
 /// How many seats are tried.
 const TRIES: usize = 32;
 
-/// A web in the making, with a seat for each spot of greatest depth, unless too many seats were taken.
+/// A web in the making, with a seat for each spot of greatest depth, unless too many seats were
+/// taken.
 #[derive(Drop)]
 struct Weaver<K: Copy> {
     web: Web<K>,

@@ -7,7 +7,8 @@ use crate::pricing::Pricing;
 use crate::web::{Edge, MOST_SPOTS, Web};
 use floor_graphs::Graph;
 
-/// The number of the node of a spot, of so many: those that have reached what is asked for come first, and later spots before earlier ones.
+/// The number of the node of a spot, of so many: those that have reached what is asked for come
+/// first, and later spots before earlier ones.
 #[inline]
 pub fn node_of(count: usize, at: usize, reached: bool) -> usize
     requires at { at < count }
@@ -50,7 +51,8 @@ fn stop_of(count: usize, node: usize) -> Stop
     }
 }
 
-/// The web as a case charges it: a node is a spot where what the case asks for was reached or wasn't.
+/// The web as a case charges it: a node is a spot where what the case asks for was reached or
+/// wasn't.
 #[derive(Drop)]
 pub struct CaseGraph<'a, P: Pricing> {
     pub pricing: &'a P,
@@ -73,11 +75,13 @@ impl<'a, P: Pricing> CaseGraph<'a, P> {
     /// An edge of a stop under a label, as the case charges it.
     fn charged(&self, stop: Stop, label: usize, edge: Edge) -> Option<(u32, u32)>
         requires at { stop.at < length self.now.web.now.spots.items }
-        requires edge { LeadsLater (P.Tree.height (P.tree self.now.pricing.now)) (P.breadth self.now.pricing.now)
-            self.now.web.now stop.at label edge }
-        ensures { result ≡ charged_edge (length self.now.web.now.spots.items) (P.rate_of self.now.pricing.now self.now.case).scale
-            (stop.reached || P.reaches_at self.now.pricing.now self.now.case (depth_in self.now.web.now stop.at) label) edge
-            (P.toll_at self.now.pricing.now self.now.case (depth_in self.now.web.now stop.at) label) }
+        requires edge { LeadsLater (P.Tree.height (P.tree self.now.pricing.now))
+            (P.breadth self.now.pricing.now) self.now.web.now stop.at label edge }
+        ensures { result ≡ charged_edge (length self.now.web.now.spots.items)
+            (P.rate_of self.now.pricing.now self.now.case).scale (stop.reached
+            || P.reaches_at self.now.pricing.now self.now.case (depth_in self.now.web.now stop.at)
+            label) edge (P.toll_at self.now.pricing.now self.now.case
+            (depth_in self.now.web.now stop.at) label) }
     {
         let depth = self.web.depth(stop.at);
         let charge = self.pricing.toll(self.case, depth, label)?;

@@ -150,8 +150,8 @@ impl<'a, P: Pricing> PricedGuide<'a, P> {
         requires at { place.now.at < length self.now.web.now.spots.items }
         requires settled { settled < 2 ^ 48 }
         ensures { result ≡ least_at self.now.web.now (case_of (P.toll_at self.now.pricing.now)
-            (P.reaches_at self.now.pricing.now) (P.rate_of self.now.pricing.now)) (P.count self.now.pricing.now)
-            self.now.numbers.now settled place.now }
+            (P.reaches_at self.now.pricing.now) (P.rate_of self.now.pricing.now))
+            (P.count self.now.pricing.now) self.now.numbers.now settled place.now }
     {
         let mut least = None;
         for case in 0..self.pricing.cases() {
@@ -190,12 +190,14 @@ impl<'a, P: Pricing> PricedGuide<'a, P> {
     fn place_after(&self, place: &Place, depth: usize, label: usize, to: u32) -> Place
         requires above { depth < P.Tree.height (P.tree self.now.pricing.now) }
         requires label { label < P.breadth self.now.pricing.now depth }
-        requires cheap { (k : ℕ) → k < P.count self.now.pricing.now → IsCheap depth (standing_in place.now k) }
+        requires cheap { (k : ℕ) → k < P.count self.now.pricing.now
+            → IsCheap depth (standing_in place.now k) }
         ensures at { result.at ≡ to }
         ensures standings { (k : ℕ) → k < P.count self.now.pricing.now → standing_in result k
-            ≡ standing_by (P.toll_at self.now.pricing.now k depth label) (P.reaches_at self.now.pricing.now k depth label)
-            (standing_in place.now k) }
-        ensures cheap { (k : ℕ) → k < P.count self.now.pricing.now → IsCheap (depth + 1) (standing_in result k) }
+            ≡ standing_by (P.toll_at self.now.pricing.now k depth label)
+            (P.reaches_at self.now.pricing.now k depth label) (standing_in place.now k) }
+        ensures cheap { (k : ℕ) → k < P.count self.now.pricing.now → IsCheap (depth + 1)
+            (standing_in result k) }
     {
         let mut next = Place {
             at: to,

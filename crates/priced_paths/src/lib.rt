@@ -1,5 +1,6 @@
-//! Floors of a tree whose steps are charged beforehand, by cases. Paths are mapped to what is kept of them, and that to the spots of a web,
-//! which any code may make: what is asked of it is that it passes a check.
+//! Floors of a tree whose steps are charged beforehand, by cases. Paths are mapped to what is kept
+//! of them, and that to the spots of a web, which any code may make: what is asked of it is that it
+//! passes a check.
 #![tactic(auto)]
 
 mod build;

@@ -9,9 +9,10 @@ use tree_search::Space;
 /// The most cases that may be told apart.
 pub const MOST_CASES: usize = 16;
 
-/// A tree whose steps are charged beforehand. Of each path something is kept, by which steps are told apart, and it has settled some of the
-/// values of the leaves below. Each leaf is of some case: there its steps are charged no more than its value and the case's debt leave
-/// beyond what it has settled.
+/// A tree whose steps are charged beforehand. Of each path something is kept, by which steps are
+/// told apart, and it has settled some of the values of the leaves below. Each leaf is of some
+/// case: there its steps are charged no more than its value and the case's debt leave beyond what
+/// it has settled.
 pub trait Pricing {
     type Tree: Space;
 
@@ -30,8 +31,8 @@ pub trait Pricing {
     /// How many labels the steps at a depth have.
     ghost breadth: { Self → ℕ → ℕ };
 
-    /// The step at a depth, from what is kept, under a label: what is kept behind it, and what it settles at least. None where there is no
-    /// such step.
+    /// The step at a depth, from what is kept, under a label: what is kept behind it, and what it
+    /// settles at least. None where there is no such step.
     ghost step_at: { Self → ℕ → Self.Kept → ℕ → Option (Self.Kept × ℕ) };
 
     /// What a case charges at a depth for a label. None where the case has no such step.
@@ -52,8 +53,10 @@ pub trait Pricing {
 
     /// What the live path of a node has settled.
     fn settled(&self, node: &<Self::Tree as Space>::Node) -> u64
-        requires { IsLiveNode (Self.Tree.is_at (tree self.now) node.now) (Self.Tree.live (tree self.now)) }
-        ensures value { (path : List ℕ) → Self.Tree.is_at (tree self.now) node.now path → result ≡ settled_by self.now path }
+        requires { IsLiveNode (Self.Tree.is_at (tree self.now) node.now)
+            (Self.Tree.live (tree self.now)) }
+        ensures value { (path : List ℕ) → Self.Tree.is_at (tree self.now) node.now path → result
+            ≡ settled_by self.now path }
         ensures small { result < 2 ^ 48 };
 
     /// What is kept of the empty path.
@@ -75,7 +78,8 @@ pub trait Pricing {
     fn is_same(&self, one: &Self::Kept, other: &Self::Kept) -> bool
         ensures { OnTrue result (one.now ≡ other.now) };
 
-    /// A number by which what is kept is looked up: the same has the same, and what differs has mostly different ones.
+    /// A number by which what is kept is looked up: the same has the same, and what differs has
+    /// mostly different ones.
     fn key(&self, kept: &Self::Kept) -> u64;
 
     /// How many cases there are.

@@ -17,19 +17,24 @@ use tree_search::{Outcome, Space, search_front};
 
 /// The first leaf of least value, by the front over the tree's own floors.
 pub fn search_unpriced<S: Space>(alloc: Global, space: &S, budget: u32) -> Result<Outcome, Memory>
-    ensures found { IfOk result (λ outcome. IfFound outcome (IsFirstLeast (S.live space.now) (S.height space.now))) }
-    ensures nothing { IfOk result (λ outcome. OnNothing outcome (HasNoLeaf (S.live space.now) (S.height space.now))) }
-    ensures bound { IfOk result (λ outcome. IfSpent outcome (BoundsLeaves (S.live space.now) (S.height space.now))) }
-    ensures over { IfOk result (λ outcome. IsSpent outcome → IsOverBudget (S.live space.now) (S.height space.now) budget) }
+    ensures found { IfOk result (λ outcome. IfFound outcome (IsFirstLeast (S.live space.now)
+        (S.height space.now))) }
+    ensures nothing { IfOk result
+        (λ outcome. OnNothing outcome (HasNoLeaf (S.live space.now) (S.height space.now))) }
+    ensures bound { IfOk result (λ outcome. IfSpent outcome (BoundsLeaves (S.live space.now)
+        (S.height space.now))) }
+    ensures over { IfOk result (λ outcome. IsSpent outcome → IsOverBudget (S.live space.now)
+        (S.height space.now) budget) }
     ensures agrees { IfOk result (AgreesWithAnswers (S.live space.now) (S.height space.now)) }
 {
     search_front(alloc, space, budget)
 }
 
-/// The web of what a pricing keeps, unless it is too big. It tells nothing of charges, so that pricings which keep the same, and differ in
-/// what they charge, have one web.
+/// The web of what a pricing keeps, unless it is too big. It tells nothing of charges, so that
+/// pricings which keep the same, and differ in what they charge, have one web.
 pub fn web_of<P: Pricing>(alloc: Global, pricing: &P) -> Result<Option<Web<P::Kept>>, Memory>
-    ensures { IfOk result (λ web. IfSome web (IsWeb (P.kept_of pricing.now []) (P.Tree.height (P.tree pricing.now))
+    ensures { IfOk result
+        (λ web. IfSome web (IsWeb (P.kept_of pricing.now []) (P.Tree.height (P.tree pricing.now))
         (P.breadth pricing.now) (P.step_at pricing.now))) }
 {
     let Some(web) = weave(alloc, pricing)? else {
@@ -41,25 +46,27 @@ pub fn web_of<P: Pricing>(alloc: Global, pricing: &P) -> Result<Option<Web<P::Ke
     Ok(Some(web))
 }
 
-/// The first leaf of least value, by the front over the floors of a pricing, by its web. Where the budget is enough the answer is that of any
-/// search of the tree; where it isn't, each leaf has at least the bound for a value.
+/// The first leaf of least value, by the front over the floors of a pricing, by its web. Where the
+/// budget is enough the answer is that of any search of the tree; where it isn't, each leaf has at
+/// least the bound for a value.
 pub fn search_web<P: Pricing>(
     alloc: Global,
     pricing: &P,
     web: &Web<P::Kept>,
     budget: u32,
 ) -> Result<Outcome, Memory>
-    requires { IsWeb (P.kept_of pricing.now []) (P.Tree.height (P.tree pricing.now)) (P.breadth pricing.now)
-        (P.step_at pricing.now) web.now }
-    ensures found { IfOk result (λ outcome.
-        IfFound outcome (IsFirstLeast (P.Tree.live (P.tree pricing.now)) (P.Tree.height (P.tree pricing.now)))) }
-    ensures nothing { IfOk result (λ outcome.
-        OnNothing outcome (HasNoLeaf (P.Tree.live (P.tree pricing.now)) (P.Tree.height (P.tree pricing.now)))) }
-    ensures bound { IfOk result (λ outcome.
-        IfSpent outcome (BoundsLeaves (P.Tree.live (P.tree pricing.now)) (P.Tree.height (P.tree pricing.now)))) }
-    ensures over { IfOk result (λ outcome. IsSpent outcome
-        → IsOverBudget (P.Tree.live (P.tree pricing.now)) (P.Tree.height (P.tree pricing.now)) budget) }
-    ensures agrees { IfOk result (AgreesWithAnswers (P.Tree.live (P.tree pricing.now)) (P.Tree.height (P.tree pricing.now))) }
+    requires { IsWeb (P.kept_of pricing.now []) (P.Tree.height (P.tree pricing.now))
+        (P.breadth pricing.now) (P.step_at pricing.now) web.now }
+    ensures found { IfOk result (λ outcome. IfFound outcome (IsFirstLeast (P.Tree.live (P.tree pricing.now))
+        (P.Tree.height (P.tree pricing.now)))) }
+    ensures nothing { IfOk result (λ outcome. OnNothing outcome (HasNoLeaf (P.Tree.live (P.tree pricing.now))
+        (P.Tree.height (P.tree pricing.now)))) }
+    ensures bound { IfOk result (λ outcome. IfSpent outcome (BoundsLeaves (P.Tree.live (P.tree pricing.now))
+        (P.Tree.height (P.tree pricing.now)))) }
+    ensures over { IfOk result (λ outcome. IsSpent outcome → IsOverBudget (P.Tree.live (P.tree pricing.now))
+        (P.Tree.height (P.tree pricing.now)) budget) }
+    ensures agrees { IfOk result (AgreesWithAnswers (P.Tree.live (P.tree pricing.now))
+        (P.Tree.height (P.tree pricing.now))) }
 {
     let numbers = case_numbers(alloc, pricing, web)?;
     let guide = PricedGuide {
@@ -70,21 +77,23 @@ pub fn search_web<P: Pricing>(
     search_sharpened(alloc, &guide, budget)
 }
 
-/// The first leaf of least value, by the front over the floors of the pricing. Where the web of what is kept is too big the front goes by the
-/// tree's own floors. Where the budget is enough the answer is that of any search of the tree; where it isn't, each leaf has at least the
-/// bound for a value.
+/// The first leaf of least value, by the front over the floors of the pricing. Where the web of
+/// what is kept is too big the front goes by the tree's own floors. Where the budget is enough the
+/// answer is that of any search of the tree; where it isn't, each leaf has at least the bound for a
+/// value.
 pub fn search_priced<P: Pricing>(alloc: Global, pricing: &P, budget: u32) -> Result<Outcome, Memory>
-    ensures found { IfOk result (λ outcome.
-        IfFound outcome (IsFirstLeast (P.Tree.live (P.tree pricing.now)) (P.Tree.height (P.tree pricing.now)))) }
-    ensures nothing { IfOk result (λ outcome.
-        OnNothing outcome (HasNoLeaf (P.Tree.live (P.tree pricing.now)) (P.Tree.height (P.tree pricing.now)))) }
-    ensures bound { IfOk result (λ outcome.
-        IfSpent outcome (BoundsLeaves (P.Tree.live (P.tree pricing.now)) (P.Tree.height (P.tree pricing.now)))) }
+    ensures found { IfOk result (λ outcome. IfFound outcome (IsFirstLeast (P.Tree.live (P.tree pricing.now))
+        (P.Tree.height (P.tree pricing.now)))) }
+    ensures nothing { IfOk result (λ outcome. OnNothing outcome (HasNoLeaf (P.Tree.live (P.tree pricing.now))
+        (P.Tree.height (P.tree pricing.now)))) }
+    ensures bound { IfOk result (λ outcome. IfSpent outcome (BoundsLeaves (P.Tree.live (P.tree pricing.now))
+        (P.Tree.height (P.tree pricing.now)))) }
 
     // It ends wherever a front over the tree's own floors does.
-    ensures over { IfOk result (λ outcome. IsSpent outcome
-        → IsOverBudget (P.Tree.live (P.tree pricing.now)) (P.Tree.height (P.tree pricing.now)) budget) }
-    ensures agrees { IfOk result (AgreesWithAnswers (P.Tree.live (P.tree pricing.now)) (P.Tree.height (P.tree pricing.now))) }
+    ensures over { IfOk result (λ outcome. IsSpent outcome → IsOverBudget (P.Tree.live (P.tree pricing.now))
+        (P.Tree.height (P.tree pricing.now)) budget) }
+    ensures agrees { IfOk result (AgreesWithAnswers (P.Tree.live (P.tree pricing.now))
+        (P.Tree.height (P.tree pricing.now))) }
 {
     match web_of(alloc, pricing)? {
         Some(web) => search_web(alloc, pricing, &web, budget),

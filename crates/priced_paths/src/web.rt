@@ -19,7 +19,8 @@ pub struct Edge {
     pub cost: u32,
 }
 
-/// What is kept of some paths of a length, with its place among the edges: one for each label, from the first on.
+/// What is kept of some paths of a length, with its place among the edges: one for each label, from
+/// the first on.
 #[derive(Clone, Copy)]
 pub struct Spot<K: Copy> {
     pub depth: usize,
@@ -59,7 +60,8 @@ impl<K: Copy> Web<K> {
     }
 }
 
-/// Whether an edge leads to a later spot, one deeper, at which this is kept, and costs no more than this.
+/// Whether an edge leads to a later spot, one deeper, at which this is kept, and costs no more than
+/// this.
 fn leads_on<P: Pricing>(
     pricing: &P,
     web: &Web<P::Kept>,
@@ -138,7 +140,8 @@ fn is_spot<P: Pricing>(pricing: &P, web: &Web<P::Kept>, at: usize, spot: &Spot<P
     true
 }
 
-/// Whether a web begins with what is kept at first and each of its spots has the edges of its steps.
+/// Whether a web begins with what is kept at first and each of its spots has the edges of its
+/// steps.
 pub fn is_web<P: Pricing>(pricing: &P, web: &Web<P::Kept>) -> bool
     ensures { OnTrue result (IsWeb (P.kept_of pricing.now []) (P.Tree.height (P.tree pricing.now))
         (P.breadth pricing.now) (P.step_at pricing.now) web.now) }

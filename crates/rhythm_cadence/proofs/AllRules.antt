@@ -1,5 +1,5 @@
 -- The readings of all rules of the crate, and the laws of Q15.
-use Rattle.std.specs.Prelude.{ℕ, ◌≡◌, ◌==◌, ◌||◌, Bool, true, false, if◌then◌else◌, refl}
+use Rattle.std.specs.Prelude.{ℕ, ◌≡◌, ◌==◌, Bool, true, false, if◌then◌else◌, refl}
 use Rattle.fux_grid.specs.declared.exercise.Exercise.{Exercise}
 use Rattle.rule_law.specs.Law.{at_once_settles, local_from_row}
 use Rattle.rule_law.specs.Places.{IsLocal, SettlesAtEnd, reading_of, settled_by, Reading}

@@ -50,7 +50,8 @@ sounds_before Rest p h = cc
 sounds_before (Hold q) p h = refl
 sounds_before (Start q) p h = refl
 
--- where a voice sounds, its note started so many columns before the newest if it's held in exactly those that came after
+-- where a voice sounds, its note started so many columns before the newest if it's held in exactly
+-- those that came after
 note_held : (m h : ℕ) (cells : List Cell) → LineFollows cells → m < length cells → sounds (newest cells) ≡ true
     → held_pitch m cells ≡ pitch_from (length cells - 1 - m) (first_of (notes_from h cells))
 note_held m h [] f within s = absurd (omega (arith, within))

@@ -1,4 +1,5 @@
--- S25 and Q16 wait for later columns. Once settled they read the same in each prefix that goes on, and so in each setting.
+-- S25 and Q16 wait for later columns. Once settled they read the same in each prefix that goes on,
+-- and so in each setting.
 use Rattle.std.specs.Prelude.{◌≡◌, ℕ, ◌+◌, ◌-◌, ◌%◌, ◌<◌, ◌≤◌, ◌==◌, Bool, true, false, not, ◌&&◌, ◌||◌, nat_le, nat_lt, List, [], ◌∷◌, ◌++◌, Option, Some, None, cond, length, drop, take, reverse, slice_index_or, refl}
 use Rattle.std.specs.List.{list_all}
 use Rattle.std.proofs.Common.{ap, sym, ◌∙◌, subst, arith, drop-cons}

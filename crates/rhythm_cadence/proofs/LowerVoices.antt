@@ -1,4 +1,5 @@
--- What the rules S13 and S24 say of voices among the first ones, they read in the cells of those. (S12 reads the cantus, which may lie above.)
+-- What the rules S13 and S24 say of voices among the first ones, they read in the cells of those.
+-- (S12 reads the cantus, which may lie above.)
 use Rattle.std.specs.Prelude.{◌≡◌, ℕ, zero, suc, ◌<◌, ◌==◌, Bool, true, false, not, ◌&&◌, ◌||◌, List, refl}
 use Rattle.std.proofs.Common.{ap, arith}
 use Rattle.std.proofs.lemmas.Bool.Decides.{nat_tests}

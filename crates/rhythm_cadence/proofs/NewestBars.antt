@@ -61,7 +61,8 @@ letters-more v p col = ap (letters_of v) (newest_columns-more p col) ∙ letters
 length-letters : (v : ℕ) (p : List (List Cell)) → length (letters_of v (bar_before p)) ≡ slot_of (length p)
 length-letters v p = length-map (bar_before p) (λ col. letter_of (cell_in col v)) ∙ length-bar_before p
 
--- a shape goes on with the letter where it begins with those before it and has the letter at the slot
+-- a shape goes on with the letter where it begins with those before it and has the letter at the
+-- slot
 goes_on : (v : ℕ) (p : List (List Cell)) (col : List Cell) (shape : List ℕ)
     → starts_with nat_eq shape (letters_of v (newest_columns (p ++ col ∷ [])))
     ≡ (starts_with nat_eq shape (letters_of v (bar_before p))

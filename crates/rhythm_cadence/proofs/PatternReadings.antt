@@ -1,4 +1,5 @@
--- Q16 compares the cells of two bars (`bar_reading`), and is settled by the second bar's last column (`pattern_settles`).
+-- Q16 compares the cells of two bars (`bar_reading`), and is settled by the second bar's last
+-- column (`pattern_settles`).
 use Rattle.std.specs.Prelude.{◌≡◌, ℕ, ◌+◌, ◌-◌, ◌%◌, ◌<◌, ◌≤◌, ◌==◌, Bool, true, false, not, ◌&&◌, nat_le, nat_lt, List, [], ◌∷◌, ◌++◌, if◌then◌else◌, length, drop, slice_index_or, refl}
 use Rattle.std.specs.List.{list_all}
 use Rattle.std.proofs.Common.{ap, sym, ◌∙◌, add-one, arith, drop-cons, subst}

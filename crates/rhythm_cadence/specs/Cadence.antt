@@ -17,7 +17,8 @@ use Rattle.rule_law.specs.Sounding.{sounding_note}
 use Rattle.rule_law.specs.Terms.{degrees_without_sign, holds_of, interval_in, note_pitch, started_pitch, starts}
 use Rattle.rhythm_cadence.specs.Rows.{begins_last_bar, holds_of_pitch, is_final}
 
--- the slot of the last bar but one on which the leading note starts, by the voice's species: the cantus has species 1
+-- the slot of the last bar but one on which the leading note starts, by the voice's species: the
+-- cantus has species 1
 abbrev pub leading_slot : ℕ → ℕ
 leading_slot species = if species == 1 then 0 else (if species == 3 then 6 else 4)
 
@@ -25,7 +26,8 @@ leading_slot species = if species == 1 then 0 else (if species == 3 then 6 else 
 abbrev pub starts_final : Exercise → Cell → Bool
 starts_final ex c = starts c && holds_of_pitch (is_final ex) (pitch_of c)
 
--- the note is the leading note one degree below the final, and it started on its slot of the bar that begins at column `bar`
+-- the note is the leading note one degree below the final, and it started on its slot of the bar
+-- that begins at column `bar`
 abbrev pub leads_to : Exercise → ℕ → ℕ → Option Pitch → Option Note → Bool
 leads_to ex bar species final None = false
 leads_to ex bar species final (Some note) =
@@ -48,8 +50,9 @@ holds_suspension ex col lead v =
 abbrev pub has_suspension : ℕ → Bool
 has_suspension species = (species == 4) || (species == 5)
 
--- a voice shows its cadence at column i, the beginning of the last bar, after the bar that begins at column `bar`: it starts the final
--- there, its leading note leads to it from that bar, and in species 4 and 5 that bar began with a suspension
+-- a voice shows its cadence at column i, the beginning of the last bar, after the bar that begins
+-- at column `bar`: it starts the final there, its leading note leads to it from that bar, and in
+-- species 4 and 5 that bar began with a suspension
 abbrev pub shows_cadence : Exercise → ℕ → List (List Cell) → List Cell → ℕ → Bool
 shows_cadence ex i behind now v =
     let bar = i - 8 in
@@ -76,7 +79,8 @@ cadence_enough ex voices = at_once
 
 -- ---- the same from the cells of the bar before
 
--- the pitch of the note that is held in exactly so many of the newest cells, and started before them
+-- the pitch of the note that is held in exactly so many of the newest cells, and started before
+-- them
 abbrev pub held_pitch : ℕ → List Cell → Option Pitch
 held_pitch held cells =
     if list_all is_hold (take held cells) then started_pitch (slice_index_or cells held Rest) else None
@@ -86,7 +90,8 @@ abbrev pub is_lead : Exercise → Option Pitch → Option Pitch → Bool
 is_lead ex final lead =
     holds_of_pitch (λ p. is_leading ex.mode p && lies_above 1 final (Some p)) lead
 
--- a voice shows its cadence in the column now, by its cells in the bar before and by the column that began that bar
+-- a voice shows its cadence in the column now, by its cells in the bar before and by the column
+-- that began that bar
 abbrev pub ends_well : Exercise → List Cell → List Cell → List Cell → ℕ → Bool
 ends_well ex start bar now v =
     let lead = held_pitch (7 - leading_slot (species_in ex v)) bar in

@@ -20,7 +20,8 @@ shape_set test (shape ∷ shapes) = (if test shape then 1 else 0) + 2 * shape_se
 abbrev pub shapes_with : ℕ → ℕ → List (List ℕ) → ℕ
 shapes_with slot letter = shape_set (λ shape. slice_index shape slot == letter)
 
--- three rows of eight sets, for the letters S, H and R: at each slot the shapes that have the letter there
+-- three rows of eight sets, for the letters S, H and R: at each slot the shapes that have the
+-- letter there
 abbrev pub holds_letter : List ℕ → ℕ → List (List ℕ) → Bool
 holds_letter sets letter shapes =
     list_all (λ slot. slice_index sets slot == shapes_with slot letter shapes) (0 ∷ 1 ∷ 2 ∷ 3 ∷ 4 ∷ 5 ∷ 6 ∷ 7 ∷ [])
@@ -50,7 +51,8 @@ shapes_begun ex v p =
 abbrev pub IsShapesOf : Exercise → List (List Cell) → BarShapes → Type 0
 IsShapesOf ex p part = (v : ℕ) → 0 < length p → IsFree ex v → slice_index part.possible v ≡ shapes_begun ex v p
 
--- after one more cell at column i: the shapes that have its letter there, and that were possible before it in its bar
+-- after one more cell at column i: the shapes that have its letter there, and that were possible
+-- before it in its bar
 abbrev pub shapes_after : Exercise → ℕ → ℕ → ℕ → Cell → ℕ
 shapes_after ex v i possible c =
     if begins_bar i then shapes_with (slot_of i) (letter_of c) (voice_shapes ex v (bar_of i))

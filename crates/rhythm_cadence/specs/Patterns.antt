@@ -12,7 +12,8 @@ use Rattle.rule_law.specs.Nearby.{NearRow}
 use Rattle.rule_law.specs.Terms.{starts}
 use Rattle.rule_law.specs.Voices.{count_free}
 
--- at the beginning of a bar that is neither the first nor the last a voice of species 4 starts a note
+-- at the beginning of a bar that is neither the first nor the last a voice of species 4 starts a
+-- note
 abbrev pub lacks_ligature : Exercise → ℕ → List Cell → ℕ → Bool
 lacks_ligature ex i now v = begins_inner_bar ex i && (species_in ex v == 4) && starts (cell_in now v)
 
@@ -23,7 +24,8 @@ missing_ligatures ex i now = count_free ex (λ v. nat_lt v ex.voices && lacks_li
 abbrev pub ligature_toll : Exercise → NearRow ℕ
 ligature_toll ex i before previous now = missing_ligatures ex i now
 
--- at a slot of the bar that begins here a voice has the cell that it had at that slot of the bar before
+-- at a slot of the bar that begins here a voice has the cell that it had at that slot of the bar
+-- before
 abbrev pub repeats_slot : ℕ → List (List Cell) → List Cell → List (List Cell) → ℕ → Bool
 repeats_slot v behind now ahead slot =
     same_cell (cell_in (slice_index_or behind (7 - slot) []) v)

@@ -1,4 +1,5 @@
--- The rules of how a voice keeps to its range, its gamut and its shapes, and of how it begins and ends.
+-- The rules of how a voice keeps to its range, its gamut and its shapes, and of how it begins and
+-- ends.
 use Rattle.std.specs.Prelude.{ℕ, ◌==◌, ◌%◌, Bool, false, not, ◌&&◌, ◌||◌, nat_le, nat_lt, List, ◌∷◌, length, take, Option, Some, None, is_none, if◌then◌else◌, pos}
 use Rattle.std.specs.Ordering.{int_eq}
 use Rattle.fux_pitch.specs.declared.pitch.Pitch.{Pitch}
@@ -51,14 +52,16 @@ leaves_range ex v i c = holds_of_pitch (is_outside (range_of ex v (bar_of i))) (
 abbrev pub leaves_gamut : Exercise → ℕ → Cell → Bool
 leaves_gamut ex i c = holds_of_pitch (λ p. not (is_in_gamut ex.mode (bar_of i) ex.bars p)) (pitch_brought i c)
 
--- S3: the letters of the bar that begins here, as far as it goes, begin none of the voice's shapes there
+-- S3: the letters of the bar that begins here, as far as it goes, begin none of the voice's shapes
+-- there
 abbrev pub may_go_on : Exercise → ℕ → ℕ → List Cell → List (List Cell) → Bool
 may_go_on ex v i now ahead = begins_shape (voice_shapes ex v (bar_of i)) (letters_of v (now ∷ take 7 ahead))
 
 abbrev pub leaves_shapes : Exercise → ℕ → ℕ → List Cell → List (List Cell) → Bool
 leaves_shapes ex v i now ahead = begins_bar i && not (may_go_on ex v i now ahead)
 
--- S12: the first note of a voice fits at the beginning: with a lower voice it makes a perfect interval, and below all others a unison or an octave with the cantus
+-- S12: the first note of a voice fits at the beginning: with a lower voice it makes a perfect
+-- interval, and below all others a unison or an octave with the cantus
 abbrev pub fits_opening : Exercise → List Cell → ℕ → Option ℕ → Bool
 fits_opening ex now v None = false
 fits_opening ex now v (Some u) = if u == v then holds_of (is_reduced_to 0 0) (interval_in now v ex.cantus_voice)
@@ -72,7 +75,8 @@ opens_badly ex previous now v =
 abbrev pub begins_last_bar : Exercise → ℕ → Bool
 begins_last_bar ex i = begins_bar i && (bar_of i == ex.bars)
 
--- S13: at the beginning of the last bar, voices 0 and w don't sound a unison or an octave; with three or four voices a fifth or a major third will do too
+-- S13: at the beginning of the last bar, voices 0 and w don't sound a unison or an octave; with
+-- three or four voices a fifth or a major third will do too
 abbrev pub may_end : ℕ → Interval → Bool
 may_end voices i = is_reduced_to 0 0 i || (nat_le 3 voices && (is_reduced_to 4 7 i || is_reduced_to 2 4 i))
 
@@ -116,7 +120,8 @@ broken_in rule ex voices i behind now ahead =
     if rule == 3 then shape_row ex voices i behind now ahead
     else whole_of (near_rows rule ex voices) i behind now ahead
 
--- S3 is open in a bar that has begun and isn't whole, as long as its letters begin a shape; all else is settled at once
+-- S3 is open in a bar that has begun and isn't whole, as long as its letters begin a shape; all
+-- else is settled at once
 abbrev pub is_open : Exercise → ℕ → ℕ → List Cell → List (List Cell) → Bool
 is_open ex v i now ahead = begins_bar i && nat_lt (length ahead) 7 && may_go_on ex v i now ahead
 

@@ -1,4 +1,5 @@
--- What is read of the newest columns and of the shapes of the newest bar, which a state keeps: breaks of S3, S22 and S25.
+-- What is read of the newest columns and of the shapes of the newest bar, which a state keeps:
+-- breaks of S3, S22 and S25.
 use Rattle.std.specs.Prelude.{◌≡◌, ℕ, ◌^◌, Bool, true, List, [], ◌∷◌, ◌++◌, length}
 use Rattle.fux_grid.specs.declared.cell.Cell.{Cell}
 use Rattle.fux_grid.specs.declared.exercise.Exercise.{Exercise}
@@ -24,7 +25,8 @@ LeavesShapes ex part i v cell =
     (p : Columns) (col : List Cell) → length p ≡ i → IsShapesOf ex p part → cell_in col v ≡ cell
     → newly_breaks shape_rule ex (2 ^ v) p col (newest_start (p ++ col ∷ [])) ≡ true
 
--- at one of a late rule's places: whether the last column, which comes after an orderly prefix, settles a break of it there
+-- at one of a late rule's places: whether the last column, which comes after an orderly prefix,
+-- settles a break of it there
 abbrev pub TellsBreak : ℕ → Exercise → ℕ → BarShapes → NewestColumns → ℕ → Bool → Type 0
 TellsBreak rule ex voices part kept place told =
     (p : Columns) (col : List Cell) → IsShapesOf ex (p ++ col ∷ []) part

@@ -17,7 +17,8 @@ use rule_law::{
     begins_inner_bar, latest_before,
 };
 
-/// The crate's rules and tolls keep the laws of a book: a theorem, which costs nothing when it's called.
+/// The crate's rules and tolls keep the laws of a book: a theorem, which costs nothing when it's
+/// called.
 #[tactic(auto, using(crate::proofs::BookLaws::keeps_laws))]
 pub fn book_is_lawful()
     ensures { KeepsLaws books.book }
@@ -74,7 +75,8 @@ impl RuleCrate for Rhythm {
         }
     }
 
-    /// S3 at the beginning of the column's bar, S22 at the column itself, S25 at the column before it or itself.
+    /// S3 at the beginning of the column's bar, S22 at the column itself, S25 at the column before
+    /// it or itself.
     fn breaks_late(
         part: &BarShapes,
         newest: &NewestColumns,

@@ -94,7 +94,8 @@ fn are_held(cells: &[Cell]) -> bool
     cells.iter().all(|cell| cell.is_hold())
 }
 
-/// The pitch of the note that is held in exactly so many of the newest of these cells, and started before them.
+/// The pitch of the note that is held in exactly so many of the newest of these cells, and started
+/// before them.
 fn held_pitch(cells: &[Cell], held: usize) -> Option<Pitch>
     requires { held < length cells.now }
     ensures { result ≡ words.held_pitch held cells.now }
@@ -108,12 +109,14 @@ fn held_pitch(cells: &[Cell], held: usize) -> Option<Pitch>
     }
 }
 
-/// Whether a voice shows its cadence at column `i`, by its cells in the bar before and by the column that began that bar.
+/// Whether a voice shows its cadence at column `i`, by its cells in the bar before and by the
+/// column that began that bar.
 fn ends_well<C: ColumnsAround>(around: &C, ex: &Exercise, i: usize, v: u8) -> bool
     requires voices { ex.now.voices ≤ 4 }
     requires place { 8 ≤ i }
-    ensures { (s : Columns) (first : ℕ) → C.show around.now ex.now s first → first ≤ i - 8 →
-        result ≡ words.ends_well ex.now (slice_index_or s (i - 8) []) (bars.bar_behind s v i) (slice_index_or s i []) v }
+    ensures { (s : Columns) (first : ℕ) → C.show around.now ex.now s first → first ≤ i - 8 → result
+        ≡ words.ends_well ex.now (slice_index_or s (i - 8) []) (bars.bar_behind s v i)
+        (slice_index_or s i []) v }
 {
     let cell = cell_around(around, ex, v, i);
     if !starts_final(ex, cell) {
@@ -127,20 +130,22 @@ fn ends_well<C: ColumnsAround>(around: &C, ex: &Exercise, i: usize, v: u8) -> bo
     !has_suspension(species) || holds_suspension(ex, around.cells(ex, i - 8), lead, v)
 }
 
-/// Whether a voice is there and shows its cadence at column `i`, the beginning of the last bar: it starts the final there, after the
-/// leading note one degree below, which began on its slot of the bar before: the first for species 1 and the cantus, the seventh for
-/// species 3, the fifth for the others. In species 4 and 5 a suspension came before it.
+/// Whether a voice is there and shows its cadence at column `i`, the beginning of the last bar: it
+/// starts the final there, after the leading note one degree below, which began on its slot of the
+/// bar before: the first for species 1 and the cantus, the seventh for species 3, the fifth for the
+/// others. In species 4 and 5 a suspension came before it.
 pub fn shows_cadence<C: ColumnsAround>(around: &C, ex: &Exercise, i: usize, v: u8) -> bool
     requires voices { ex.now.voices ≤ 4 }
     requires place { 8 ≤ i }
-    ensures { (s : Columns) (first : ℕ) → C.show around.now ex.now s first → first ≤ i - 8 → i < length s →
-        HistoryFollows (reverse s) → result ≡ (nat_lt v ex.now.voices &&
-        reading_back (words.shows_cadence ex.now) s i v) }
+    ensures { (s : Columns) (first : ℕ) → C.show around.now ex.now s first → first ≤ i - 8 → i
+        < length s → HistoryFollows (reverse s) → result
+        ≡ (nat_lt v ex.now.voices && reading_back (words.shows_cadence ex.now) s i v) }
 {
     v < ex.voices && ends_well(around, ex, i, v)
 }
 
-/// S22: whether at column `i`, if the last bar begins there, no voice shows its cadence. It is broken for the set of all voices.
+/// S22: whether at column `i`, if the last bar begins there, no voice shows its cadence. It is
+/// broken for the set of all voices.
 pub fn breaks_cadence<C: ColumnsAround>(
     around: &C,
     ex: &Exercise,
@@ -148,8 +153,9 @@ pub fn breaks_cadence<C: ColumnsAround>(
     i: usize,
 ) -> bool
     requires { IsValid ex.now }
-    ensures { (s : Columns) (first : ℕ) → C.show around.now ex.now s first → first ≤ i - 8 → i < length s →
-        HistoryFollows (reverse s) → result ≡ reading_of (cadence_row ex.now voices.bits) s i }
+    ensures { (s : Columns) (first : ℕ) → C.show around.now ex.now s first → first ≤ i - 8 → i
+        < length s → HistoryFollows (reverse s) → result
+        ≡ reading_of (cadence_row ex.now voices.bits) s i }
 {
     if !begins_last_bar(ex, i) || !has_all_voices(ex, voices) {
         return false;

@@ -24,7 +24,8 @@ fn is_out_of_place(ex: &Exercise, i: usize, latest: &Latest, now: &[Cell], v: u8
         || opens_badly(ex, latest.of(v as usize), now, v)
 }
 
-/// Whether a column breaks none of S1, S2 and S12 in any voice, from the pitch of each voice's latest note before it.
+/// Whether a column breaks none of S1, S2 and S12 in any voice, from the pitch of each voice's
+/// latest note before it.
 pub fn are_in_place(ex: &Exercise, i: usize, latest: &Latest, now: &[Cell]) -> bool
     requires valid { IsValid ex.now }
     requires place { i < columns_in ex.now }

@@ -7,7 +7,8 @@ ghost use Rattle.rhythm_cadence.specs.Book.{quaver_rule};
 use fux_grid::Exercise;
 use rule_law::LatePlaces;
 
-/// The places at which column `i` may settle a break of S25: the column before, and at the setting's last column itself too.
+/// The places at which column `i` may settle a break of S25: the column before, and at the
+/// setting's last column itself too.
 pub(crate) fn quaver_places(ex: &Exercise, i: usize) -> LatePlaces
     requires valid { IsValid ex.now }
     requires place { i < columns_in ex.now }

@@ -6,8 +6,9 @@ ghost use Rattle.rhythm_cadence.specs.Parts as parts;
 
 use fux_grid::Cell;
 
-/// Sets of bar shapes, one for each slot: those where a note starts there, where one is held, and where the voice rests.
-/// Bit k of a set is shape k of its species and bar, in the order of `fux_grid::shapes_of`.
+/// Sets of bar shapes, one for each slot: those where a note starts there, where one is held, and
+/// where the voice rests. Bit k of a set is shape k of its species and bar, in the order of
+/// `fux_grid::shapes_of`.
 #[derive(Clone, Copy, Debug, PartialEq, Eq)]
 pub struct LetterSets {
     pub starts: [u16; 8],

@@ -15,8 +15,9 @@ use crate::letter_sets::fitting_shapes;
 use fux_grid::{Cell, Exercise, VoiceSet, bar_of, cell_of, slot_of, species_of};
 use rule_law::{begins_bar, is_free};
 
-/// For each of four voices the shapes that it may still have in the bar of the newest column: bit k of a voice's set is
-/// shape k of its species and bar. Nothing is meant of the cantus, nor before the first column.
+/// For each of four voices the shapes that it may still have in the bar of the newest column: bit k
+/// of a voice's set is shape k of its species and bar. Nothing is meant of the cantus, nor before
+/// the first column.
 #[derive(Clone, Copy, Debug, PartialEq, Eq)]
 pub struct BarShapes {
     pub possible: [u16; 4],
@@ -61,7 +62,8 @@ fn kept_if_free(possible: u16, ex: &Exercise, i: usize, cell: Cell, v: u8) -> u1
 pub fn noted(part: &BarShapes, ex: &Exercise, i: usize, col: &[Cell]) -> BarShapes
     requires valid { IsValid ex.now }
     requires place { i < columns_in ex.now }
-    ensures { (p : List (List Cell)) → length p ≡ i → IsShapesOf ex.now p part.now → IsShapesOf ex.now (p ++ col.now ∷ []) result }
+    ensures { (p : List (List Cell)) → length p ≡ i → IsShapesOf ex.now p part.now
+        → IsShapesOf ex.now (p ++ col.now ∷ []) result }
 {
     let [first, second, third, fourth] = part.possible;
     BarShapes {
@@ -82,8 +84,8 @@ fn has_begun_shapes(i: usize, possible: u16) -> bool
     begins_bar(i) || possible != 0
 }
 
-/// Whether a free voice leaves the last of the shapes that it may still have in its bar with a cell at column `i`: then it breaks S3 in any
-/// column with that cell, and it didn't before.
+/// Whether a free voice leaves the last of the shapes that it may still have in its bar with a cell
+/// at column `i`: then it breaks S3 in any column with that cell, and it didn't before.
 pub fn leaves_last_shape(part: &BarShapes, ex: &Exercise, i: usize, cell: Cell, v: u8) -> bool
     requires voice { v < 4 }
     requires valid { IsValid ex.now }
@@ -103,7 +105,8 @@ pub fn leaves_last_shape(part: &BarShapes, ex: &Exercise, i: usize, cell: Cell, 
 /// Whether a free voice of the exercise has no shape left.
 #[inline]
 fn has_none_left(possible: u16, ex: &Exercise, v: u8) -> bool
-    ensures { result ≡ (nat_lt v ex.now.voices && (voices_words.is_free ex.now v && possible == 0)) }
+    ensures { result
+        ≡ (nat_lt v ex.now.voices && (voices_words.is_free ex.now v && possible == 0)) }
 {
     v < ex.voices && is_free(ex, v) && possible == 0
 }

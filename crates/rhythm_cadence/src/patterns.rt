@@ -12,7 +12,8 @@ use crate::bar_cells::bar_behind;
 use fux_grid::{Cell, Exercise, Score, cell_of, slot_of, species_of};
 use rule_law::{ColumnsAround, begins_bar, begins_inner_bar, is_free, starts};
 
-/// Whether a voice is free and of species 4, and starts a note at the beginning of a bar that is neither the first nor the last.
+/// Whether a voice is free and of species 4, and starts a note at the beginning of a bar that is
+/// neither the first nor the last.
 fn lacks_ligature(ex: &Exercise, i: usize, now: &[Cell], v: u8) -> bool
     ensures { result ≡ (voices_words.is_free ex.now v
         && (nat_lt v ex.now.voices && words.lacks_ligature ex.now i now.now v)) }
@@ -24,7 +25,8 @@ fn lacks_ligature(ex: &Exercise, i: usize, now: &[Cell], v: u8) -> bool
         && starts(cell_of(now, v as usize))
 }
 
-/// Q15: how many free voices of species 4 start a note at the beginning of a bar that is neither the first nor the last.
+/// Q15: how many free voices of species 4 start a note at the beginning of a bar that is neither
+/// the first nor the last.
 #[tactic(auto, using(crate::proofs::Quiet::none_missing), unfolding(crate::specs::Patterns::missing_ligatures))]
 pub fn missing_ligatures(ex: &Exercise, i: usize, now: &[Cell]) -> u32
     ensures value { result ≡ words.missing_ligatures ex.now i now.now }
@@ -71,7 +73,8 @@ fn repeats_bar<C: ColumnsAround>(around: &C, ex: &Exercise, i: usize, v: u8) -> 
     )
 }
 
-/// Whether a voice is free, of species 2 to 5, and repeats the bar before in the bar that begins at column `i`.
+/// Whether a voice is free, of species 2 to 5, and repeats the bar before in the bar that begins at
+/// column `i`.
 fn is_pattern<C: ColumnsAround>(around: &C, ex: &Exercise, i: usize, v: u8) -> bool
     requires voices { ex.now.voices ≤ 4 }
     requires bar { begins i ≡ true }
@@ -88,7 +91,8 @@ fn is_pattern<C: ColumnsAround>(around: &C, ex: &Exercise, i: usize, v: u8) -> b
     repeats_bar(around, ex, i, v)
 }
 
-/// Q16: where a bar begins at column `i`, how many free voices of species 2 to 5 repeat the bar before in it.
+/// Q16: where a bar begins at column `i`, how many free voices of species 2 to 5 repeat the bar
+/// before in it.
 pub fn pattern_cost<C: ColumnsAround>(around: &C, ex: &Exercise, i: usize) -> u32
     requires voices { ex.now.voices ≤ 4 }
     requires few { i < 192 }
@@ -115,7 +119,8 @@ pub fn is_pattern_settled(ex: &Exercise, score: &Score, i: usize) -> bool
     !begins_bar(i) || i + 7 < score.len()
 }
 
-/// Whether column `i` may settle Q16, at the beginning of its bar: it ends a bar that isn't the first.
+/// Whether column `i` may settle Q16, at the beginning of its bar: it ends a bar that isn't the
+/// first.
 pub(crate) fn settles_pattern(i: usize) -> bool
     ensures { result ≡ words.settles_pattern i }
 {

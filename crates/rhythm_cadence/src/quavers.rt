@@ -37,8 +37,8 @@ pub fn is_step_apart(p: Option<Pitch>, q: Option<Pitch>) -> bool
 fn is_stepwise<C: ColumnsAround>(around: &C, ex: &Exercise, i: usize, v: u8) -> bool
     requires voices { ex.now.voices ≤ 4 }
     requires place { i < C.size around.now }
-    ensures { (s : Columns) (first : ℕ) → C.show around.now ex.now s first → first ≤ i - 1 → is_free ex.now v ≡ true →
-        result ≡ reading_of words.is_stepwise s i v }
+    ensures { (s : Columns) (first : ℕ) → C.show around.now ex.now s first → first ≤ i - 1
+        → is_free ex.now v ≡ true → result ≡ reading_of words.is_stepwise s i v }
 {
     let here = cell_around(around, ex, v, i).pitch();
     if !is_step_apart(around.pitch_before(ex, v, i), here) {
@@ -52,14 +52,14 @@ fn is_bad_quaver<C: ColumnsAround>(around: &C, ex: &Exercise, i: usize, v: u8) -
     requires voices { ex.now.voices ≤ 4 }
     requires few { i < 192 }
     requires place { i < C.size around.now }
-    ensures { (s : Columns) (first : ℕ) → C.show around.now ex.now s first → first ≤ i - 1 → is_free ex.now v ≡ true →
-        result ≡ reading_of words.is_bad_quaver s i v }
+    ensures { (s : Columns) (first : ℕ) → C.show around.now ex.now s first → first ≤ i - 1
+        → is_free ex.now v ≡ true → result ≡ reading_of words.is_bad_quaver s i v }
 {
     starts_quaver(around, ex, i, v) && !is_stepwise(around, ex, i, v)
 }
 
-/// S25: whether a note of exactly one slot starts at column `i`, and lacks a previous or a next note, or is entered or left by
-/// another move than a step.
+/// S25: whether a note of exactly one slot starts at column `i`, and lacks a previous or a next
+/// note, or is entered or left by another move than a step.
 pub fn breaks_quaver<C: ColumnsAround>(
     around: &C,
     ex: &Exercise,

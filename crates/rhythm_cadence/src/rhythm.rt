@@ -36,7 +36,8 @@ fn breaks_in_voice(
     }
 }
 
-/// Whether S1, S2, S12, S13 or S24 is broken in a column, from the pitch of each voice's latest note before it.
+/// Whether S1, S2, S12, S13 or S24 is broken in a column, from the pitch of each voice's latest
+/// note before it.
 #[inline]
 pub fn breaks(
     rule: u8,
@@ -49,7 +50,8 @@ pub fn breaks(
 ) -> bool
     requires valid { IsValid ex.now }
     requires place { i < columns_in ex.now }
-    ensures { result ≡ rows.near_rows rule ex.now voices.bits i before.now latest.now.pitches now.now }
+    ensures { result ≡ rows.near_rows rule ex.now voices.bits i before.now latest.now.pitches
+        now.now }
 {
     match rule {
         13 => match pair_of(voices) {
@@ -72,14 +74,15 @@ pub fn breaks(
     }
 }
 
-/// Whether the bar that begins at a place, as far as the score has it, may go on to a shape of the voice: some are left of those that a
-/// state would keep of it.
+/// Whether the bar that begins at a place, as far as the score has it, may go on to a shape of the
+/// voice: some are left of those that a state would keep of it.
 fn may_go_on(ex: &Exercise, score: &Score, v: u8, i: usize) -> bool
     requires valid { IsValid ex.now }
     requires few { length score.now.columns ≤ columns_in ex.now }
     requires place { i < length score.now.columns }
     requires bar { IsTrue (begins_bar i) }
-    ensures { result ≡ rows.may_go_on ex.now v i (slice_index_or score.now.columns i []) (drop (i + 1) score.now.columns) }
+    ensures { result ≡ rows.may_go_on ex.now v i (slice_index_or score.now.columns i [])
+        (drop (i + 1) score.now.columns) }
 {
     let end = score.len().min(i + 8);
     let mut possible = 0;
@@ -93,7 +96,8 @@ fn may_go_on(ex: &Exercise, score: &Score, v: u8, i: usize) -> bool
 #[inline]
 pub(crate) fn free_voice(ex: &Exercise, voices: VoiceSet) -> Option<u8>
     ensures free { IfSome result (IsFree ex.now) }
-    ensures test { (test : ℕ → Bool) → on_free_voice ex.now test voices.bits ≡ holds_of_some test result }
+    ensures test { (test : ℕ → Bool) → on_free_voice ex.now test voices.bits ≡ holds_of_some test
+        result }
 {
     match voice_of(voices) {
         Some(v) => {
@@ -119,7 +123,8 @@ pub(crate) fn leaves_shapes(ex: &Exercise, score: &Score, i: usize, voices: Voic
     }
 }
 
-/// Whether the score has fewer than seven columns after this one, so that a bar that begins at it isn't whole.
+/// Whether the score has fewer than seven columns after this one, so that a bar that begins at it
+/// isn't whole.
 #[inline]
 fn is_part(score: &Score, i: usize) -> bool
     requires { i < length score.now.columns }
@@ -128,7 +133,8 @@ fn is_part(score: &Score, i: usize) -> bool
     score.len() - i < 8
 }
 
-/// Whether the bar that begins at a place is a part that may still go on to a shape of the set's voice.
+/// Whether the bar that begins at a place is a part that may still go on to a shape of the set's
+/// voice.
 pub(crate) fn is_open(ex: &Exercise, score: &Score, i: usize, voices: VoiceSet) -> bool
     requires valid { IsValid ex.now }
     requires few { length score.now.columns ≤ columns_in ex.now }

@@ -1,4 +1,5 @@
--- What the newest columns show after an orderly prefix: the columns around each place among them (`kept_after`).
+-- What the newest columns show after an orderly prefix: the columns around each place among them
+-- (`kept_after`).
 use Rattle.std.specs.Prelude.{◌≡◌, ◌≢◌, ℕ, suc, ◌+◌, ◌-◌, ◌<◌, ◌≤◌, true, List, [], ◌∷◌, ◌++◌, None, drop, take, length, reverse, slice_index_or, refl}
 use Rattle.std.proofs.Common.{ap, sym, ◌∙◌, subst, inl, inr, arith}
 use Rattle.std.proofs.Math.ListN.{get_or-append}

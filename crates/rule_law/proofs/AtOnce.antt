@@ -1,4 +1,5 @@
--- What is settled at once is newly settled at the newest column alone, and read there before any column comes behind it.
+-- What is settled at once is newly settled at the newest column alone, and read there before any
+-- column comes behind it.
 use Rattle.std.specs.Prelude.{◌≡◌, ℕ, ◌+◌, ◌<◌, ◌≤◌, Bool, true, false, not, ◌&&◌, nat_lt, List, [], ◌∷◌, ◌++◌, length, reverse, if◌then◌else◌, refl}
 use Rattle.std.proofs.Common.{ap, sym, ◌∙◌, arith}
 use Rattle.std.proofs.lemmas.Bool.Decides.{nat_tests}

@@ -1,5 +1,6 @@
--- A test of four voices, gone through one by one: some voice passes it once one does (`some_passes`), and none passes it where no
--- voice so far does and the next one doesn't (`none_yet`).
+-- A test of four voices, gone through one by one: some voice passes it once one does
+-- (`some_passes`), and none passes it where no voice so far does and the next one doesn't
+-- (`none_yet`).
 use Rattle.std.proofs.Common.{◌≡◌, ℕ, zero, suc, ◌+◌, ◌<◌, Bool, true, false, ◌||◌, [], ◌∷◌, ◌++◌, ap, ◌∙◌, arith}
 use Rattle.std.specs.List.{list_any, range_with_len}
 use Rattle.std.proofs.lemmas.List.Folds.{list_any-append, list_any_at}

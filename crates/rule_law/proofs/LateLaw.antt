@@ -13,7 +13,8 @@ use Rattle.rule_law.specs.Places.{Row, IsLocal, IsUndisturbed, SettlesAtEnd, rea
 use Rattle.rule_law.specs.Prefixes.{GoesOn}
 use Rattle.rule_law.specs.Whole.{is_whole}
 
--- in prefixes that go on, and where enough columns are there, the columns that come later change nothing
+-- in prefixes that go on, and where enough columns are there, the columns that come later change
+-- nothing
 abbrev pub StaysAhead : {R : Type 0} → Exercise → Row R → Row Bool → Type 0
 StaysAhead ex row enough =
     (p t : List (List Cell)) (i : ℕ) → GoesOn ex p t → i < length p → IsTrue (reading_of enough p i)
@@ -57,7 +58,8 @@ pub by_either : {P : Type 0} (a b : Bool) → IsTrue (a || b) → (IsTrue a → 
 by_either true b h f g = f refl
 by_either false b h f g = g h
 
--- where columns after the place, or a whole list, are enough, a row is local that columns after those don't disturb
+-- where columns after the place, or a whole list, are enough, a row is local that columns after
+-- those don't disturb
 abbrev pub or_whole : Exercise → Row Bool → Row Bool
 or_whole ex enough i behind now ahead = enough i behind now ahead || is_whole ex i ahead
 

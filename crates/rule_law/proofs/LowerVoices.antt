@@ -1,4 +1,5 @@
--- What is read of the first voices of a column: their cells, and which of them is the lowest that sounds. It's the same in each column that has their cells.
+-- What is read of the first voices of a column: their cells, and which of them is the lowest that
+-- sounds. It's the same in each column that has their cells.
 use Rattle.std.specs.Prelude.{◌≡◌, ℕ, zero, suc, ◌+◌, ◌<◌, ◌==◌, Bool, true, false, not, ◌&&◌, ◌||◌, nat_lt, List, [], ◌∷◌, Option, Some, None, take, length, if◌then◌else◌, refl}
 use Rattle.std.specs.List.{position_or_len}
 use Rattle.std.proofs.Common.{ap, sym, ◌∙◌, arith}
@@ -45,7 +46,8 @@ on_pair-same ex n voices f g h same =
         (same pair.0 pair.1 (below_from_test pair.0 n (first_true (nat_lt pair.0 n) (nat_lt pair.1 n) k))
         (below_from_test pair.1 n (second_true (nat_lt pair.0 n) (nat_lt pair.1 n) k)))
 
--- where a column begins with a cell, its voice 0 is the lowest where the cell sounds, and a later one where it doesn't
+-- where a column begins with a cell, its voice 0 is the lowest where the cell sounds, and a later
+-- one where it doesn't
 lowest_first : (b : Bool) (k l : ℕ) → is_this 0
     (if nat_lt (if not b then 1 + k else 0) (suc l) then Some (if not b then 1 + k else 0) else None) ≡ b
 lowest_first true k l = ap (λ t. is_this 0 (if t then Some 0 else None)) (test_from_below 0 (suc l) (omega arith))

@@ -1,5 +1,5 @@
 -- A rule added to a set, and the union of two sets.
-use Rattle.std.proofs.Common.{◌≡◌, ℕ, ◌*◌, ◌%◌, ◌^◌, ◌<◌, ◌≤◌, max, IsTrue, ◌==◌, ◌||◌, Bool, true, false, bit_or, refl, ap, sym, ◌∙◌, subst, w32, arith}
+use Rattle.std.proofs.Common.{◌≡◌, ℕ, ◌*◌, ◌%◌, ◌^◌, ◌<◌, ◌≤◌, max, ◌==◌, ◌||◌, Bool, true, false, bit_or, refl, ap, sym, ◌∙◌, subst, w32, arith}
 use Rattle.std.proofs.Math.Bool.{or-false, or-true}
 use Rattle.std.proofs.lemmas.Bool.{eqb-true, eq-eqb}
 use Rattle.std.proofs.lemmas.Nat.Bits.{bit_at_set_same, bit_at_set_other, bit_at_above, bit_at_or, bit_at-lt}

@@ -8,13 +8,15 @@ use Rattle.rule_law.specs.Terms.{previous_pitch}
 use Rattle.rule_law.specs.Voices.{is_free}
 use Rattle.rule_law.specs.declared.newest.NewestColumns.{NewestColumns}
 
--- before each column of the list a free voice sounds the pitch of its latest note, or has had no note
+-- before each column of the list a free voice sounds the pitch of its latest note, or has had no
+-- note
 abbrev pub SoundsOn : Exercise → Columns → Type 0
 SoundsOn ex s =
     (v i : ℕ) → is_free ex v ≡ true → i < length s
     → previous_pitch (line v (earlier s i)) ≡ pitch_of (cell_in (newest_column (earlier s i)) v)
 
--- the newest columns of such a list of an exercise are kept, those from column `first` on among them
+-- the newest columns of such a list of an exercise are kept, those from column `first` on among
+-- them
 pub record AreKeptFrom (ex : Exercise) (kept : NewestColumns) (s : Columns) (first : ℕ) : Type 0 where
   pub newest : AreNewestOf ex.voices s kept
   pub near : length s ≤ first + 25

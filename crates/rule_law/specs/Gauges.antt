@@ -1,4 +1,5 @@
--- What gauges weigh: the whole line of a free voice, and how much the columns still ahead may change.
+-- What gauges weigh: the whole line of a free voice, and how much the columns still ahead may
+-- change.
 use Rattle.std.specs.Prelude.{◌≡◌, ℕ, ◌-◌, ◌<◌, ◌≤◌, Bool, List, ◌∷◌, Contains, count_by, length}
 use Rattle.std.specs.List.{list_any, range_with_len}
 use Rattle.fux_grid.specs.declared.cell.Cell.{Cell}

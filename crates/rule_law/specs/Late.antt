@@ -1,4 +1,5 @@
--- What is read of the newest columns, where the last of them comes after an orderly prefix: the breaks and the costs that it settles.
+-- What is read of the newest columns, where the last of them comes after an orderly prefix: the
+-- breaks and the costs that it settles.
 use Rattle.std.specs.Prelude.{◌≡◌, ℕ, Bool, true, List, [], ◌∷◌, ◌++◌, length}
 use Rattle.fux_grid.specs.declared.cell.Cell.{Cell}
 use Rattle.fux_grid.specs.declared.exercise.Exercise.{Exercise}

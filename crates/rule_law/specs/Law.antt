@@ -30,7 +30,8 @@ below_from_test i n h = grind (arith, nat_tests)
 pub test_from_below : (i n : ℕ) → i < n → IsTrue (nat_lt i n)
 test_from_below i n h = grind (arith, nat_tests)
 
--- at a place of a prefix, a longer list has the same columns before it and at it, and after it the prefix's and more
+-- at a place of a prefix, a longer list has the same columns before it and at it, and after it the
+-- prefix's and more
 pub reading-append : {R : Type 0} (row : Row R) (p t : List (List Cell)) (i : ℕ) → i < length p
     → reading_of row (p ++ t) i ≡ row i (earlier p i) (slice_index_or p i []) (drop (i + 1) p ++ t)
 reading-append row p t i h =

@@ -9,7 +9,8 @@ use Rattle.rule_law.specs.Places.{Reading, reading_of}
 use Rattle.rule_law.specs.Nearby.{NearRow, whole_of, near_of, near_at_end}
 use Rattle.rule_law.specs.OrderlyLaw.{cantus_sounds, orderly_rests_in_all}
 
--- an orderly prefix: its columns follow one another, have the exercise's voices and the cantus, and no break of S3 is settled
+-- an orderly prefix: its columns follow one another, have the exercise's voices and the cantus, and
+-- no break of S3 is settled
 pub record IsOrderlyPrefix (ex : Exercise) (p : List (List Cell)) : Type 0 where
   pub follows : HistoryFollows (reverse p)
   pub full : All (λ col. length col ≡ ex.voices) p

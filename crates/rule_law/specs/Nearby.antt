@@ -22,7 +22,8 @@ pitch_at pitches v = slice_index_or pitches v None
 abbrev pub for_voices : (ℕ → Option Pitch) → Pitches
 for_voices pitch = pitch 0 ∷ pitch 1 ∷ pitch 2 ∷ pitch 3 ∷ []
 
--- an answer from a place, the column before it, the pitch of each voice's previous note, and its column
+-- an answer from a place, the column before it, the pitch of each voice's previous note, and its
+-- column
 abbrev pub NearRow : Type 0 → Type 0
 NearRow R = ℕ → List Cell → Pitches → List Cell → R
 
@@ -37,7 +38,8 @@ sounding_pitches col = for_voices (λ v. pitch_of (cell_in col v))
 abbrev pub whole_of : {R : Type 0} → NearRow R → Row R
 whole_of row i behind now ahead = row i (newest_column behind) (previous_pitches behind) now
 
--- the answer in two neighbors alone: a voice's previous pitch is the one that it sounds in the column before
+-- the answer in two neighbors alone: a voice's previous pitch is the one that it sounds in the
+-- column before
 abbrev pub near_of : {R : Type 0} → NearRow R → ℕ → List Cell → List Cell → R
 near_of row i before now = row i before (sounding_pitches before) now
 
@@ -101,7 +103,8 @@ line_follows v (col ∷ behind) f =
 for_voices_same : (f g : ℕ → Option Pitch) → ((v : ℕ) → f v ≡ g v) → for_voices f ≡ for_voices g
 for_voices_same f g e = rw (e 0, e 1, e 2, e 3) refl
 
--- behind columns that follow one another, with rests only before first notes, both answers are the same
+-- behind columns that follow one another, with rests only before first notes, both answers are the
+-- same
 pub near_from_row : {R : Type 0} (row : NearRow R) (i : ℕ) (behind : List (List Cell)) (now : List Cell)
     (ahead : List (List Cell)) → HistoryFollows behind → ((v : ℕ) → RestsFirst (line v behind))
     → whole_of row i behind now ahead ≡ near_of row i (newest_column behind) now

@@ -19,7 +19,8 @@ pub record AreNewestOf (voices : ℕ) (s : List (List Cell)) (kept : NewestColum
   pub count : kept.len ≡ length s
   pub columns : (i : ℕ) → i < length s → length s ≤ i + 25 → kept_column voices kept i ≡ slice_index_or s i []
 
--- of whatever list the first are the newest columns, the others are those of the list with this column more
+-- of whatever list the first are the newest columns, the others are those of the list with this
+-- column more
 abbrev pub GrowBy : List Cell → NewestColumns → NewestColumns → Type 0
 GrowBy col kept grown =
     (voices : ℕ) (s : Columns) → voices ≤ 4 → length col ≡ voices

@@ -1,4 +1,5 @@
--- What a rule or a toll answers at the places of a list of columns, and how much of the list settles it.
+-- What a rule or a toll answers at the places of a list of columns, and how much of the list
+-- settles it.
 use Rattle.std.specs.Prelude.{◌≡◌, ℕ, ◌+◌, ◌<◌, Bool, true, ◌&&◌, nat_lt, List, [], ◌∷◌, ◌++◌, IsTrue, length, drop, slice_index_or}
 use Rattle.fux_grid.specs.declared.cell.Cell.{Cell}
 use Rattle.fux_grid.specs.declared.exercise.Exercise.{Exercise}
@@ -6,11 +7,13 @@ use Rattle.fux_grid.specs.Columns.{earlier}
 use Rattle.fux_grid.specs.Exercises.{columns_in}
 use Rattle.rule_law.specs.Prefixes.{GoesOn}
 
--- an answer at each place of a list of columns: for rules whether they are broken, for tolls what they cost
+-- an answer at each place of a list of columns: for rules whether they are broken, for tolls what
+-- they cost
 abbrev pub Reading : Type 0 → Type 0
 Reading R = List (List Cell) → ℕ → R
 
--- an answer from a place, the columns before it from the newest to the oldest, its column, and the columns after it
+-- an answer from a place, the columns before it from the newest to the oldest, its column, and the
+-- columns after it
 abbrev pub Row : Type 0 → Type 0
 Row R = ℕ → List (List Cell) → List Cell → List (List Cell) → R
 
@@ -33,7 +36,8 @@ reading_with row p col = reading_of row (p ++ col ∷ [])
 abbrev pub settled_by : Row Bool → Reading Bool
 settled_by enough s i = nat_lt i (length s) && reading_of enough s i
 
--- what is settled at a place of an orderly prefix stays so: every prefix that it begins has the same answer there, and so has every setting
+-- what is settled at a place of an orderly prefix stays so: every prefix that it begins has the
+-- same answer there, and so has every setting
 abbrev pub IsLocal : {R : Type 0} → Exercise → Reading R → Reading Bool → Type 0
 IsLocal ex reads settles =
     (p t : List (List Cell)) (i : ℕ) → GoesOn ex p t → IsTrue (settles p i) → reads (p ++ t) i ≡ reads p i

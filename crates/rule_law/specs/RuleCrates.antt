@@ -23,8 +23,8 @@ abbrev pub KeptWith : {P : Type 0} → (Columns → P → Type 0) → ℕ → Li
 KeptWith is_part i col part longer =
     (p : Columns) → length p ≡ i → is_part p part → is_part (p ++ col ∷ []) longer
 
--- at one of a late rule's places: whether the last column, which comes after an orderly prefix, settles a break of it there; known by
--- what is kept of the two, and by the newest columns
+-- at one of a late rule's places: whether the last column, which comes after an orderly prefix,
+-- settles a break of it there; known by what is kept of the two, and by the newest columns
 abbrev pub TellsBreakBy : {P : Type 0} → (Columns → P → Type 0) → RuleRow → Exercise → ℕ → P → NewestColumns → ℕ → Bool
     → Type 0
 TellsBreakBy is_part it ex voices part kept place told =
@@ -40,8 +40,9 @@ SettlesNoOther it ex kept first count =
     → (voices i : ℕ) → IsAmong (it.first ex (length p)) (it.count ex (length p)) i
     → newly_breaks it ex voices p col i ≡ true → IsAmong first count i
 
--- at the column that comes behind so many columns, and whatever follows it: what the row answers. It is known by what is kept of these, by
--- the newest of them, and by the pitch of each voice's previous note
+-- at the column that comes behind so many columns, and whatever follows it: what the row answers.
+-- It is known by what is kept of these, by the newest of them, and by the pitch of each voice's
+-- previous note
 abbrev pub TellsAtOnce : {P R : Type 0} → (Columns → P → Type 0) → Row R → P → ℕ → List Cell → Pitches → List Cell → R
     → Type 0
 TellsAtOnce is_part row part i before latest now told =

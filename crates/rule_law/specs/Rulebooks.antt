@@ -19,21 +19,23 @@ use Rattle.rule_law.specs.Quiet.{is_quiet}
 
 -- a rule. Its rows and its kind define it, and the other fields say how it is read
 pub record RuleRow : Type 0 where
-  -- what breaks it for a set of voices, which columns are enough to settle that, and how much it is read from: chains look at no rule of
-  -- a window
+  -- what breaks it for a set of voices, which columns are enough to settle that, and how much it is
+  -- read from: chains look at no rule of a window
   pub broken : Exercise → ℕ → Row Bool
   pub enough : Exercise → ℕ → Row Bool
   pub kind : Kind
-  -- these define nothing, and `KeepsRuleLaws` ties them to the rows: the sets of voices and the places where it may be broken, whether
-  -- it is late, and the places at which column i may settle a break, the first and how many. A late rule is read when its column is
-  -- among the newest ones, so it may be settled later than at its own column
+  -- these define nothing, and `KeepsRuleLaws` ties them to the rows: the sets of voices and the
+  -- places where it may be broken, whether it is late, and the places at which column i may settle
+  -- a break, the first and how many. A late rule is read when its column is among the newest ones,
+  -- so it may be settled later than at its own column
   pub form : Form
   pub stands : Stands
   pub late : Bool
   pub first : Exercise → ℕ → ℕ
   pub count : Exercise → ℕ → ℕ
 
--- a toll: the same of what it costs, without its weight. Here too the last three fields define nothing
+-- a toll: the same of what it costs, without its weight. Here too the last three fields define
+-- nothing
 pub record TollRow : Type 0 where
   pub cost : Exercise → Row ℕ
   pub enough : Exercise → Row Bool
@@ -95,8 +97,8 @@ pub record KeepsTollLaws (it : TollRow) : Type 0 where
       → IsAmong (it.first ex (length p)) (it.count ex (length p)) i
   pub within : (ex : Exercise) (i : ℕ) → it.first ex i + it.count ex i ≤ i + 1
 
--- what a crate has: which numbers are those of its rules and tolls, and each by its number; and the numbers of its
--- late rules, in the order in which they are asked
+-- what a crate has: which numbers are those of its rules and tolls, and each by its number; and the
+-- numbers of its late rules, in the order in which they are asked
 pub record Rulebook : Type 0 where
   pub has_rule : ℕ → Bool
   pub rule : ℕ → RuleRow
@@ -114,8 +116,8 @@ pub record KeepsAllLaws (book : Rulebook) : Type 0 where
   pub rules : (n : ℕ) → KeepsRuleLaws (book.rule n)
   pub tolls : (n : ℕ) → KeepsTollLaws (book.toll n)
 
--- two crates as one: a number is read as the first one that has it reads it, and the late rules of the second are
--- asked first
+-- two crates as one: a number is read as the first one that has it reads it, and the late rules of
+-- the second are asked first
 abbrev pub joined : Rulebook → Rulebook → Rulebook
 joined a b = record {
   has_rule = λ n. a.has_rule n || b.has_rule n;

@@ -77,7 +77,8 @@ differs None q = false
 differs (Some p) None = false
 differs (Some p) (Some q) = not (same_pitch p q)
 
--- a voice moves from one column to the next: it starts a note of another pitch than it sounds before
+-- a voice moves from one column to the next: it starts a note of another pitch than it sounds
+-- before
 abbrev pub moves : Cell → Cell → Bool
 moves before now = starts now && differs (pitch_of before) (pitch_of now)
 

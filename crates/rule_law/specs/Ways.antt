@@ -11,6 +11,7 @@ holds_some_way ex test v w = (is_free ex v && test v w) || (is_free ex w && test
 abbrev pub on_some_way : Exercise → (ℕ → ℕ → Bool) → ℕ → Bool
 on_some_way ex test = on_pair ex (holds_some_way ex test)
 
--- the test holds in each way to name a free voice of the set and the other one: in none does it fail
+-- the test holds in each way to name a free voice of the set and the other one: in none does it
+-- fail
 abbrev pub on_each_way : Exercise → (ℕ → ℕ → Bool) → ℕ → Bool
 on_each_way ex test voices = not (on_some_way ex (λ v w. not (test v w)) voices)

@@ -10,7 +10,8 @@ use crate::table::{Form, LatePlaces};
 use fux_grid::{Cell, Exercise, Score, VoiceSet};
 use std::marker::PhantomData;
 
-/// The rules and tolls of one crate: any other number is of a rule that is never broken, and of a toll that costs nothing.
+/// The rules and tolls of one crate: any other number is of a rule that is never broken, and of a
+/// toll that costs nothing.
 pub struct Alone<A> {
     rules: PhantomData<A>,
 }

@@ -14,7 +14,8 @@ use crate::terms::previous_pitch;
 use fux_grid::{Cell, Exercise, Score, cell_of};
 use fux_pitch::Pitch;
 
-/// The columns of a list from some column on, and what voices sounded before. Clauses speak of each list that has these columns.
+/// The columns of a list from some column on, and what voices sounded before. Clauses speak of each
+/// list that has these columns.
 pub trait ColumnsAround {
     /// From a first column on these are the columns of a list, of an exercise's voices.
     ghost show: { Self → AnExercise → Columns → ℕ → Type 0 };
@@ -93,7 +94,8 @@ impl ColumnsAround for NewestColumns {
     }
 }
 
-/// The cells of the column that stands k columns before the one before column `i`; none where there is no such column.
+/// The cells of the column that stands k columns before the one before column `i`; none where there
+/// is no such column.
 #[inline]
 pub fn cells_behind<'a, C: ColumnsAround>(
     around: &'a C,
@@ -102,8 +104,8 @@ pub fn cells_behind<'a, C: ColumnsAround>(
     k: usize,
 ) -> &'a [Cell]
     requires { ex.now.voices ≤ 4 }
-    ensures { (s : Columns) (first : ℕ) → C.show around.now ex.now s first → first ≤ i - 1 - k → i ≤ length s
-        → result.now ≡ slice_index_or (earlier s i) k [] }
+    ensures { (s : Columns) (first : ℕ) → C.show around.now ex.now s first → first ≤ i - 1 - k → i
+        ≤ length s → result.now ≡ slice_index_or (earlier s i) k [] }
 {
     if k >= i {
         return &[];
@@ -111,7 +113,8 @@ pub fn cells_behind<'a, C: ColumnsAround>(
     around.cells(ex, i - 1 - k)
 }
 
-/// The cells of the column that comes k columns after the one after column `i`; none where there is no such column.
+/// The cells of the column that comes k columns after the one after column `i`; none where there is
+/// no such column.
 #[inline]
 pub fn cells_ahead<'a, C: ColumnsAround>(
     around: &'a C,
@@ -131,7 +134,8 @@ pub fn cells_ahead<'a, C: ColumnsAround>(
 #[inline]
 pub fn cell_around<C: ColumnsAround>(around: &C, ex: &Exercise, v: u8, i: usize) -> Cell
     requires { ex.now.voices ≤ 4 }
-    ensures { (s : Columns) (first : ℕ) → C.show around.now ex.now s first → first ≤ i → result ≡ cell_at s v i }
+    ensures { (s : Columns) (first : ℕ) → C.show around.now ex.now s first → first ≤ i → result
+        ≡ cell_at s v i }
 {
     cell_of(around.cells(ex, i), v as usize)
 }
@@ -140,8 +144,8 @@ pub fn cell_around<C: ColumnsAround>(around: &C, ex: &Exercise, v: u8, i: usize)
 #[inline]
 pub fn cell_behind<C: ColumnsAround>(around: &C, ex: &Exercise, v: u8, i: usize, k: usize) -> Cell
     requires { ex.now.voices ≤ 4 }
-    ensures { (s : Columns) (first : ℕ) → C.show around.now ex.now s first → first ≤ i - 1 - k → i ≤ length s →
-        result ≡ cell_at (earlier s i) v k }
+    ensures { (s : Columns) (first : ℕ) → C.show around.now ex.now s first → first ≤ i - 1 - k → i
+        ≤ length s → result ≡ cell_at (earlier s i) v k }
 {
     cell_of(cells_behind(around, ex, i, k), v as usize)
 }

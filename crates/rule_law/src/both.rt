@@ -10,7 +10,8 @@ use crate::table::{Form, LatePlaces};
 use fux_grid::{Cell, Exercise, Score, VoiceSet};
 use std::marker::PhantomData;
 
-/// The rules and tolls of both crates: those that the first has are read as it reads them, and all others as the second does.
+/// The rules and tolls of both crates: those that the first has are read as it reads them, and all
+/// others as the second does.
 pub struct Both<A, B> {
     rules: PhantomData<(A, B)>,
 }

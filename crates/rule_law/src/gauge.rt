@@ -8,16 +8,19 @@ ghost use Rattle.rule_law.specs.Gauges.{GaugeRow, KeepsGaugeLaws};
 
 use fux_grid::{Cell, Exercise, can_start};
 
-/// What is kept of a line for a value of the whole line of a free voice, which is known to be at least so much while the line goes on.
-/// A clause sees the cells of the line from the newest to the oldest.
+/// What is kept of a line for a value of the whole line of a free voice, which is known to be at
+/// least so much while the line goes on. A clause sees the cells of the line from the newest to the
+/// oldest.
 pub trait Gauge {
     /// What is kept of the cells of a voice.
     type State: Copy;
 
-    /// The gauge's number, the value of a line, and what each line that begins with given cells has at least.
+    /// The gauge's number, the value of a line, and what each line that begins with given cells has
+    /// at least.
     ghost row: { GaugeRow };
 
-    /// From a prefix of a setting to a longer one the least value never falls, and in a setting it is the value.
+    /// From a prefix of a setting to a longer one the least value never falls, and in a setting it
+    /// is the value.
     ghost keeps: { KeepsGaugeLaws row };
 
     /// The state is that of these cells.

@@ -34,8 +34,9 @@ impl ColumnCells {
     }
 }
 
-/// How many columns a list has, and the newest 25 of them: a column and the three bars before it, as far back as a rule or a toll looks
-/// from the column that settles it. Column `i` is kept at `i % 25`. It has a fixed size and takes no memory.
+/// How many columns a list has, and the newest 25 of them: a column and the three bars before it,
+/// as far back as a rule or a toll looks from the column that settles it. Column `i` is kept at `i
+/// % 25`. It has a fixed size and takes no memory.
 #[derive(Clone, Copy, Debug, PartialEq, Eq)]
 pub struct NewestColumns {
     /// How many columns the list has.
@@ -57,7 +58,8 @@ impl NewestColumns {
     /// How many columns the list has.
     #[inline]
     pub fn len(&self) -> usize
-        ensures { (voices : ℕ) (s : List (List ACell)) → AreNewestOf voices s self.now → result ≡ length s }
+        ensures { (voices : ℕ) (s : List (List ACell)) → AreNewestOf voices s self.now → result
+            ≡ length s }
     {
         self.len
     }
@@ -65,7 +67,8 @@ impl NewestColumns {
     /// Whether the list is empty.
     #[inline]
     pub fn is_empty(&self) -> bool
-        ensures { (voices : ℕ) (s : List (List ACell)) → AreNewestOf voices s self.now → result ≡ (length s == 0) }
+        ensures { (voices : ℕ) (s : List (List ACell)) → AreNewestOf voices s self.now → result
+            ≡ (length s == 0) }
     {
         self.len == 0
     }

@@ -37,7 +37,8 @@ pub fn sound_perfect(column: &[Cell], v: usize, w: usize) -> bool
     }
 }
 
-/// Whether two voices both move from one column to the next: each starts a note of another pitch than it sounds before.
+/// Whether two voices both move from one column to the next: each starts a note of another pitch
+/// than it sounds before.
 #[inline(always)]
 pub fn both_move(before: &[Cell], now: &[Cell], v: usize, w: usize) -> bool
     ensures { result ≡ pairs.both_move before.now now.now v w }

@@ -16,8 +16,9 @@ use crate::question::LateQuestion;
 use crate::table::{Form, LatePlaces};
 use fux_grid::{Cell, Exercise, Score, VoiceSet};
 
-/// What a crate of rules and tolls has: each of those of its book by its number, read from a whole score, from the newest columns where it
-/// is late, from what is kept of the columns before where it is settled at once, and from two neighboring columns where these decide it.
+/// What a crate of rules and tolls has: each of those of its book by its number, read from a whole
+/// score, from the newest columns where it is late, from what is kept of the columns before where
+/// it is settled at once, and from two neighboring columns where these decide it.
 pub trait RuleCrate {
     /// What is kept of a prefix for the crate, beside the newest columns.
     type Part;
@@ -50,7 +51,8 @@ pub trait RuleCrate {
     fn form(rule: u8) -> Form
         ensures { result ≡ (book.rule rule).form };
 
-    /// Whether a rule is read among the newest columns, since it may be settled later than at its own.
+    /// Whether a rule is read among the newest columns, since it may be settled later than at its
+    /// own.
     fn is_late(rule: u8) -> bool
         ensures { result ≡ (book.rule rule).late };
 
@@ -58,18 +60,23 @@ pub trait RuleCrate {
     fn places_settled(rule: u8, ex: &Exercise, i: usize) -> LatePlaces
         requires valid { IsValid ex.now }
         requires place { i < columns_in ex.now }
-        ensures first { (book.rule rule).late ≡ true → result.first ≡ (book.rule rule).first ex.now i }
-        ensures count { (book.rule rule).late ≡ true → result.count ≡ (book.rule rule).count ex.now i }
+        ensures first { (book.rule rule).late ≡ true → result.first ≡ (book.rule rule).first ex.now
+            i }
+        ensures count { (book.rule rule).late ≡ true → result.count ≡ (book.rule rule).count ex.now
+            i }
         ensures few { result.count ≤ 24 };
 
-    /// Those of the newest column's places at which, as the newest columns tell, it may settle a break of a late rule.
+    /// Those of the newest column's places at which, as the newest columns tell, it may settle a
+    /// break of a late rule.
     fn places_left(newest: &NewestColumns, rule: u8, ex: &Exercise) -> LatePlaces
         requires valid { IsValid ex.now }
         requires begun { 0 < newest.now.len }
         requires room { newest.now.len ≤ columns_in ex.now }
-        ensures from { (book.rule rule).late ≡ true → (book.rule rule).first ex.now (newest.now.len - 1) ≤ result.first }
+        ensures from { (book.rule rule).late ≡ true → (book.rule rule).first ex.now
+            (newest.now.len - 1) ≤ result.first }
         ensures to { (book.rule rule).late ≡ true → result.first + result.count
-            ≤ (book.rule rule).first ex.now (newest.now.len - 1) + (book.rule rule).count ex.now (newest.now.len - 1) }
+            ≤ (book.rule rule).first ex.now (newest.now.len - 1) + (book.rule rule).count ex.now
+            (newest.now.len - 1) }
         ensures left { (book.rule rule).late ≡ true →
             SettlesNoOther (book.rule rule) ex.now newest.now result.first result.count }
     {
@@ -88,11 +95,11 @@ pub trait RuleCrate {
         requires valid { IsValid ex.now }
         requires begun { 0 < newest.now.len }
         requires room { newest.now.len ≤ columns_in ex.now }
-        ensures { (book.rule rule).late ≡ true →
-            TellsBreakBy (is_part ex.now) (book.rule rule) ex.now voices.bits part.now newest.now place result };
+        ensures { (book.rule rule).late ≡ true → TellsBreakBy (is_part ex.now) (book.rule rule)
+            ex.now voices.bits part.now newest.now place result };
 
-    /// Whether a question is answered by yes for some late rule. Each is asked by its own number, so that what depends on the number alone
-    /// is settled before the program runs.
+    /// Whether a question is answered by yes for some late rule. Each is asked by its own number,
+    /// so that what depends on the number alone is settled before the program runs.
     fn asks_some<Q: LateQuestion>(question: &Q) -> bool
         requires ready { Q.is_ready question.now }
         requires rules { list_all (Q.may_ask question.now) book.late_rules ≡ true }
@@ -103,8 +110,10 @@ pub trait RuleCrate {
     fn toll_places(toll: u8, ex: &Exercise, i: usize) -> LatePlaces
         requires valid { IsValid ex.now }
         requires place { i < columns_in ex.now }
-        ensures first { (book.toll toll).late ≡ true → result.first ≡ (book.toll toll).first ex.now i }
-        ensures count { (book.toll toll).late ≡ true → result.count ≡ (book.toll toll).count ex.now i }
+        ensures first { (book.toll toll).late ≡ true → result.first ≡ (book.toll toll).first ex.now
+            i }
+        ensures count { (book.toll toll).late ≡ true → result.count ≡ (book.toll toll).count ex.now
+            i }
         ensures few { result.count ≤ 24 };
 
     /// What the newest column settles of a late toll at one of its places, without the weight.
@@ -112,11 +121,12 @@ pub trait RuleCrate {
         requires valid { IsValid ex.now }
         requires begun { 0 < newest.now.len }
         requires room { newest.now.len ≤ columns_in ex.now }
-        ensures value { (book.toll toll).late ≡ true → TellsCost (book.toll toll) ex.now newest.now place result }
+        ensures value { (book.toll toll).late ≡ true → TellsCost (book.toll toll) ex.now newest.now
+            place result }
         ensures bound { result ≤ 6 };
 
-    /// Whether a rule that is settled at once is broken in column `i`: `before` is the column before it, and `latest` has the pitch of each
-    /// voice's latest note there.
+    /// Whether a rule that is settled at once is broken in column `i`: `before` is the column
+    /// before it, and `latest` has the pitch of each voice's latest note there.
     fn breaks_at_once(
         part: &Self::Part,
         rule: u8,
@@ -130,7 +140,8 @@ pub trait RuleCrate {
         requires valid { IsValid ex.now }
         requires place { i < columns_in ex.now }
         ensures { (book.rule rule).late ≡ false → TellsAtOnce (is_part ex.now)
-            ((book.rule rule).broken ex.now voices.bits) part.now i before.now latest.now.pitches now.now result };
+            ((book.rule rule).broken ex.now voices.bits) part.now i before.now latest.now.pitches
+            now.now result };
 
     /// What a toll that is settled at once costs there, without its weight.
     fn cost_at_once(
@@ -160,8 +171,9 @@ pub trait RuleCrate {
     ) -> bool
         requires valid { IsValid ex.now }
         requires place { i < columns_in ex.now }
-        ensures { is_of_neighbors (book.rule rule).kind ≡ true → TellsBetween
-            ((book.rule rule).broken ex.now voices.bits) i before.now latest.now.pitches now.now result };
+        ensures { is_of_neighbors (book.rule rule).kind ≡ true
+            → TellsBetween ((book.rule rule).broken ex.now voices.bits) i before.now
+            latest.now.pitches now.now result };
 
     /// What a toll that two neighboring columns decide costs there, without its weight.
     fn cost_between(
@@ -184,7 +196,8 @@ pub trait RuleCrate {
         requires voices { score.now.voices ≡ ex.now.voices }
         requires few { length score.now.columns ≤ columns_in ex.now }
         requires place { i < length score.now.columns }
-        ensures { result ≡ reading_of ((book.rule rule).broken ex.now voices.bits) score.now.columns i };
+        ensures { result ≡ reading_of ((book.rule rule).broken ex.now voices.bits) score.now.columns
+            i };
 
     /// Whether that is settled.
     fn settled_in(rule: u8, ex: &Exercise, prefix: &Score, i: usize, voices: VoiceSet) -> bool
@@ -192,7 +205,8 @@ pub trait RuleCrate {
         requires voices { prefix.now.voices ≡ ex.now.voices }
         requires few { length prefix.now.columns ≤ columns_in ex.now }
         requires place { i < length prefix.now.columns }
-        ensures { result ≡ settled_by ((book.rule rule).enough ex.now voices.bits) prefix.now.columns i };
+        ensures { result ≡ settled_by ((book.rule rule).enough ex.now voices.bits)
+            prefix.now.columns i };
 
     /// What a toll costs at a place of a whole score, without its weight.
     fn cost_in(toll: u8, ex: &Exercise, score: &Score, i: usize) -> u32

@@ -76,7 +76,8 @@ pub fn pair_of(voices: VoiceSet) -> Option<(u8, u8)>
 /// The pairs of four voices, the lower voice first.
 const VOICE_PAIRS: [(u8, u8); 6] = [(0, 1), (0, 2), (0, 3), (1, 2), (1, 3), (2, 3)];
 
-/// The pairs of four voices, the lower voice first: a pair of which an exercise lacks a voice is among them.
+/// The pairs of four voices, the lower voice first: a pair of which an exercise lacks a voice is
+/// among them.
 #[inline]
 pub fn voice_pairs() -> &'static [(u8, u8)]
     ensures value { result.now ≡ voices_words.voice_pairs }

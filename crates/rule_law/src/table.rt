@@ -35,7 +35,8 @@ pub enum Stands {
     AtTheEnd,
 }
 
-/// The places at which a column may settle breaks of a late rule, in a row: the first, and how many.
+/// The places at which a column may settle breaks of a late rule, in a row: the first, and how
+/// many.
 #[derive(Clone, Copy, Debug, PartialEq, Eq)]
 pub struct LatePlaces {
     pub first: usize,

@@ -13,7 +13,8 @@ use std::thread::Threads;
 pub const EXERCISE: &str =
     "fux 1\nmode dorian\nvoices 2\nbars 3\nspecies 1 voice 1\ncantus 0 D4 E4 D4\nrange 1 A4 D5\n";
 
-/// The status of a run over the files of a shelf, a space, and all that these sinks have taken by then.
+/// The status of a run over the files of a shelf, a space, and all that these sinks have taken by
+/// then.
 pub fn said_into<F: Shelf, R: Threads + Sync>(
     rt: &R,
     alloc: Global,

@@ -37,7 +37,8 @@ const EXERCISES: [(&str, Option<u64>); 5] = [
     (GRADUS, Some(23)),
 ];
 
-/// What a command says of the exercise `E` and the certificate `C`, over pieces of a size. The read of a number fails.
+/// What a command says of the exercise `E` and the certificate `C`, over pieces of a size. The read
+/// of a number fails.
 fn said_of<R: Threads + Sync>(
     rt: &R,
     alloc: Global,
@@ -96,8 +97,8 @@ fn what_is_best_is_certified_and_accepted(rt: HostRuntime) -> Result<(), Fail> {
     Ok(())
 }
 
-/// Lines of the certificate of the exercise of three bars, whose 104 claims stand in the lines 5 to 108, what stands in
-/// place of each, and what is said of such a copy.
+/// Lines of the certificate of the exercise of three bars, whose 104 claims stand in the lines 5 to
+/// 108, what stands in place of each, and what is said of such a copy.
 const COPIES: &[(usize, &str, &str)] = &[
     (1, "fux-cert 1\n", "0 accepted: best 7\n"),
     (59, "f\n", "1 refused at claim 55: false\n"),
@@ -115,10 +116,10 @@ const COPIES: &[(usize, &str, &str)] = &[
     (108, "b 14", "1 refused at byte 362: end\n"),
 ];
 
-/// An exercise without a lawful setting. Each of three pitches may stand in each bar, and only the first column of the
-/// last bar breaks a rule strictly, S22. So the certificate has a claim `o` for the empty prefix, eight for each
-/// beginning of one to seven bars, of which there are 3, 9, .. and 2,187, and 6,561 claims `b 22`. These are 32,794
-/// claims, and the last one begins at byte 85,289.
+/// An exercise without a lawful setting. Each of three pitches may stand in each bar, and only the
+/// first column of the last bar breaks a rule strictly, S22. So the certificate has a claim `o` for
+/// the empty prefix, eight for each beginning of one to seven bars, of which there are 3, 9, .. and
+/// 2,187, and 6,561 claims `b 22`. These are 32,794 claims, and the last one begins at byte 85,289.
 const LONG: &str = "fux 1\nmode dorian\nvoices 2\nbars 8\nspecies 1 voice 1\n\
 cantus 0 D4 D4 D4 D4 D4 D4 D4 D4\nrange 1 E4 G4\n\
 relax S4 all 1 8 0\nrelax S5 all 1 8 0\nrelax S6 all 1 8 0\nrelax S7 all 1 8 0\n\
@@ -128,8 +129,8 @@ relax S16 all 1 8 0\nrelax S17 all 1 8 0\nrelax S18 all 1 8 0\nrelax S19 all 1 8
 relax S20 all 1 8 0\nrelax S21 all 1 8 0\nrelax S23 all 1 8 0\nrelax S24 all 1 8 0\n\
 relax S25 all 1 8 0\nrelax S26 all 1 8 0\n";
 
-/// Lines of that certificate, whose claims stand in the lines 4 to 32,797, what stands in place of each, and what is
-/// said of such a copy.
+/// Lines of that certificate, whose claims stand in the lines 4 to 32,797, what stands in place of
+/// each, and what is said of such a copy.
 const LONG_COPIES: &[(usize, &str, &str)] = &[
     (1, "fux-cert 1\n", "0 accepted: none\n"),
     (30_003, "s\n", "1 refused at claim 30000: false\n"),
@@ -141,7 +142,8 @@ const LONG_COPIES: &[(usize, &str, &str)] = &[
     (32_797, "b 22", "1 refused at byte 85289: end\n"),
 ];
 
-/// A text with another one in place of the line of this number, its line feed among it. Lines count from 1.
+/// A text with another one in place of the line of this number, its line feed among it. Lines count
+/// from 1.
 fn with_line(alloc: Global, text: &str, number: usize, line: &str) -> Result<String, AllocError> {
     let mut copy = String::new(alloc);
     for (place, old) in text.lines().enumerate() {
@@ -181,14 +183,16 @@ fn nothing_is_read_behind_a_refusal(rt: HostRuntime) -> Result<(), Fail> {
     for _ in 0..40_000 {
         copy.push_str("o\n")?;
     }
-    // The exercise takes 85 reads of a byte, and the first 65,536 bytes of the certificate a read each.
+    // The exercise takes 85 reads of a byte, and the first 65,536 bytes of the certificate a read
+    // each.
     let files = (EXERCISE, copy.as_str());
     let checked = said_of(&rt, alloc, "check E C", files, 1, 65_622)?;
     agree(&rt, checked.as_str(), "1 refused at claim 55: false\n");
     Ok(())
 }
 
-/// A text in the form of these words is this head, entries of which the first is this, as many as that, and the claims of the first form.
+/// A text in the form of these words is this head, entries of which the first is this, as many as
+/// that, and the claims of the first form.
 fn states<R: Threads + Sync>(
     rt: &R,
     alloc: Global,

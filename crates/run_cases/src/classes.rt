@@ -21,7 +21,8 @@ fn known<T>(answer: Result<T, Memory>) -> Result<T, Fail> {
     }
 }
 
-/// The texts of 512 exercises: settings without marks and with four, none at all, and files that are too long.
+/// The texts of 512 exercises: settings without marks and with four, none at all, and files that
+/// are too long.
 fn texts_of(alloc: Global) -> Result<Vec<Text>, Fail> {
     let best = format!(in alloc; "{EXERCISE}{BEST}")?;
     let mut texts = Vec::new(alloc);

@@ -19,14 +19,16 @@ MTrk\x00\x00\x00\x1f\x00\xff\x03\x01\x43\x00\x90\x3e\x50\x8e\x7f\x3e\x00\
 MTrk\x00\x00\x00\x1a\x00\x91\x4a\x50\x8e\x7f\x4a\x00\
 \x01\x49\x50\x8e\x7f\x49\x00\x01\x4a\x50\x8e\x7f\x4a\x00\x00\xff\x2f\x00";
 
-/// What `certify --form 1` says of the exercise: the status, and the certificate of the best setting.
+/// What `certify --form 1` says of the exercise: the status, and the certificate of the best
+/// setting.
 const CERTIFIED: &str = "0 fux-cert 1\nbest 7\nsing 1 D5:8 | C#5:8 | D5:8\nclaims\n\
 o\no\no\no\no\no\no\no\no\nb 14\nb 14\nb 16\no\no\no\no\no\no\no\no\nb 13\nb 13\nb 13\nb 13\nb 4\nb 22\n\
 o\no\no\no\no\no\no\no\nb 13\nb 4\nb 13\nb 4\nb 13\nf\nb 14\nb 12\nb 12\nb 12\no\no\no\no\no\no\no\no\nb 14\nb 14\n\
 o\no\no\no\no\no\no\no\nb 13\nb 4\nb 13\nb 13\nb 13\nb 22\no\no\no\no\no\no\no\no\nb 13\nb 13\nb 13\nb 13\nb 4\nb 22\n\
 o\no\no\no\no\no\no\no\nb 13\nb 4\nb 13\nb 4\nb 13\no\no\no\no\no\no\no\ns\nb 14\n";
 
-/// Runs, with how many bytes each reads, and its status with all that it writes, where nothing fails.
+/// Runs, with how many bytes each reads, and its status with all that it writes, where nothing
+/// fails.
 const RUNS: [(&str, u64, &str); 4] = [
     (
         "compose A --sheet S",
@@ -124,7 +126,8 @@ fn each_write_that_fails_leaves_a_front(rt: HostRuntime) -> Result<(), Fail> {
             let out = MemSink::new(alloc, 1000, 16, &[failing])?;
             let got = said(&rt, alloc, line, &mut shelf, out)?;
             if got.as_str() == *expected {
-                // Each write was one that fails: the output, which stands behind a status, takes no fewer.
+                // Each write was one that fails: the output, which stands behind a status, takes no
+                // fewer.
                 assert!(rt; failing > (expected.len() as u64).saturating_sub(2) / 16);
                 break;
             }

@@ -20,7 +20,8 @@ fn said_of<R: Threads + Sync>(rt: &R, alloc: Global, line: &str) -> Result<Strin
     said(rt, alloc, line, &mut shelf, out)
 }
 
-/// What a drill is to say where this was composed. No lawful setting of an exercise without relaxations has a mark.
+/// What a drill is to say where this was composed. No lawful setting of an exercise without
+/// relaxations has a mark.
 fn drilled(alloc: Global, composed: &str) -> Result<String, Fail> {
     let (status, found) = composed.split_once(' ').ok_or("no status")?;
     let front = format!(in alloc; "{status} drill 1\ncantus {CANTUS}\n")?;

@@ -1,4 +1,5 @@
-//! Cases of whole runs: what no clause of `run` says, that a run goes on to its work, and that the clauses mean what they should.
+//! Cases of whole runs: what no clause of `run` says, that a run goes on to its work, and that the
+//! clauses mean what they should.
 #![tactic(auto)]
 
 #[cfg(test)]

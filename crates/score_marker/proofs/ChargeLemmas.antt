@@ -15,15 +15,14 @@ use Rattle.penalty_sheet.specs.declared.sheet.Sheet.{Sheet}
 use Rattle.penalty_sheet.specs.Prices.{amount_of}
 use Rattle.penalty_sheet.specs.Weights.{weight_of}
 use Rattle.fux_judge.specs.Gauges.{cells_of_voice, cost_of_line, free_voices, gauges_of}
-use Rattle.fux_judge.specs.Penalties.{charges_of, penalty_of, price_at_place, price_read, prices_at, tolls_at}
+use Rattle.fux_judge.specs.Penalties.{charges_of, price_at_place, price_read, prices_at, tolls_at}
 use Rattle.fux_judge.specs.Rules.{all_sets, cost_at, rules_read, tolls_read}
-use Rattle.score_marker.specs.declared.charge.Charge.{Charge}
 use Rattle.score_marker.specs.declared.charge.Charge.TheVariants.{Broken, Toll, Line}
 use Rattle.score_marker.specs.declared.mark.Mark.{Mark}
 use Rattle.score_marker.specs.Charges.{ChargesArePenalty, ChargesHaveMarks, charges_at_place, charges_of_breaks, charges_of_line, charges_of_lines, charges_of_places, charges_of_tolls, cost_of, line_charge, line_where, mark_in, marks_in, toll_charge, toll_where}
-use Rattle.score_marker.specs.Lists.{mark_where, marks_of_place, marks_of_places, marks_of_rule}
+use Rattle.score_marker.specs.Lists.{mark_where, marks_of_places, marks_of_rule}
 use Rattle.score_marker.specs.MarkLines.{price_of}
-use Rattle.score_marker.specs.Marks.{AreMarks, mark_at}
+use Rattle.score_marker.specs.Marks.{AreMarks}
 use Rattle.score_marker.specs.Setting.{breaks_of, marks_at, sets_in_order}
 use Rattle.score_marker.proofs.ListLemmas.{range-more}
 use Rattle.score_marker.proofs.SettingLemmas.{are_marks}

@@ -1,5 +1,5 @@
--- A cantus of the pools keeps its rules bar by bar exactly where no exercise that has it gives it marks: S2 and the forms K1 to K3
--- follow from the pools and S4.
+-- A cantus of the pools keeps its rules bar by bar exactly where no exercise that has it gives it
+-- marks: S2 and the forms K1 to K3 follow from the pools and S4.
 use Rattle.std.specs.Prelude.{◌≡◌, ◌≢◌, ℕ, zero, suc, ◌+◌, ◌*◌, ◌/◌, ◌%◌, ◌^◌, ◌<◌, ◌≤◌, ◌==◌, ℤ, pos, negsuc, ◌-ℤ◌, int_lt, unsigned_abs, Bool, true, false, not, ◌&&◌, ◌||◌, nat_lt, [], ◌∷◌, ◌++◌, List, Option, Some, None, Contains, length, map, reverse, slice_get, take, if◌then◌else◌, ◌↔◌, refl}
 use Rattle.std.specs.List.{range_with_len}
 use Rattle.std.specs.Int.{int_signum}

@@ -1,4 +1,5 @@
--- No two lists are the marks of one setting, or of one cantus: what they contain and their order leave one list.
+-- No two lists are the marks of one setting, or of one cantus: what they contain and their order
+-- leave one list.
 use Rattle.std.proofs.Common.{◌≡◌, inl, inr, List, [], ◌∷◌, refl, ap, sym, ◌∙◌, subst}
 use Rattle.std.specs.List.{AllPairs, Contains}
 use Rattle.std.specs.Cmp.Lexicographic.{slice_cmp}

@@ -42,7 +42,8 @@ abbrev pub ends_without_step : Exercise → ℕ → Option Pitch → Cell → Bo
 ends_without_step ex i previous now =
     begins_last_bar ex i && not (holds_of (λ move. is_step move && falls move) (move_from previous now))
 
--- the rules of a cantus: of those of single voices S2, S4 and S6 to S9, and its own forms K1 to K3 by the numbers 31 to 33
+-- the rules of a cantus: of those of single voices S2, S4 and S6 to S9, and its own forms K1 to K3
+-- by the numbers 31 to 33
 unfoldable pub cantus_rules : List ℕ
 cantus_rules = 2 ∷ 4 ∷ 6 ∷ 7 ∷ 8 ∷ 9 ∷ 31 ∷ 32 ∷ 33 ∷ []
 

@@ -4,7 +4,6 @@ use Rattle.std.specs.List.{flat_map, range_with_len, sum_by}
 use Rattle.fux_grid.specs.declared.cell.Cell.{Cell}
 use Rattle.fux_grid.specs.declared.exercise.Exercise.{Exercise}
 use Rattle.fux_grid.specs.Exercises.{bar_of, slot_of}
-use Rattle.rule_law.specs.Gauges.{GaugeRow}
 use Rattle.rule_law.specs.Voices.{is_free}
 use Rattle.melody_rules.specs.Gauges.{gauges}
 use Rattle.penalty_sheet.specs.declared.sheet.Sheet.{Sheet}

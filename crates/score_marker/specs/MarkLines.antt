@@ -36,7 +36,8 @@ mark_line price mark =
     codes "bar " ++ decimal mark.bar ++ codes " slot " ++ decimal mark.slot ++ codes " " ++ rule_name mark.rule
     ++ codes " voices" ++ voices_text mark.voices.bits ++ price_text price ++ 10 ∷ []
 
--- the price that the relax lines of an exercise give to the break of a mark; a relax line is of none of K1 to K3
+-- the price that the relax lines of an exercise give to the break of a mark; a relax line is of
+-- none of K1 to K3
 abbrev pub price_of : Exercise → Mark → Price
 price_of ex mark = price_in ex mark.rule mark.voices.bits mark.bar
 

@@ -25,7 +25,8 @@ voices_in bits = filter (has_voice bits) (0 ∷ 1 ∷ 2 ∷ 3 ∷ [])
 abbrev pub mark_key : Mark → List ℕ
 mark_key mark = mark.bar ∷ mark.slot ∷ mark.rule ∷ voices_in mark.voices.bits
 
--- a mark stands before another: of two lists the one with the lesser number at the first difference comes first, and a list before those that it begins
+-- a mark stands before another: of two lists the one with the lesser number at the first difference
+-- comes first, and a list before those that it begins
 abbrev pub IsBefore : Mark → Mark → Type 0
 IsBefore mark other = slice_cmp nat_cmp (mark_key mark) (mark_key other) ≡ Less
 

@@ -6,7 +6,8 @@ use Rattle.fux_judge.specs.Rules.{is_broken, rules_read}
 use Rattle.score_marker.specs.declared.mark.Mark.{Mark}
 use Rattle.score_marker.specs.Lists.{Test, marks_of_place}
 
--- every set of voices, by the ascending lists of their voices: 0, 0 1, 0 1 2, 0 1 2 3, 0 1 3, 0 2, and so on
+-- every set of voices, by the ascending lists of their voices: 0, 0 1, 0 1 2, 0 1 2 3, 0 1 3, 0 2,
+-- and so on
 unfoldable pub sets_in_order : List ℕ
 sets_in_order = 1 ∷ 3 ∷ 7 ∷ 15 ∷ 11 ∷ 5 ∷ 13 ∷ 9 ∷ 2 ∷ 6 ∷ 14 ∷ 10 ∷ 4 ∷ 12 ∷ 8 ∷ []
 

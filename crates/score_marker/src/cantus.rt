@@ -97,8 +97,8 @@ fn mark_place(
     Ok(())
 }
 
-/// Every rule that the cantus breaks, read as a voice of species 1 by itself: S2, S4 and S6 to S9, and K1, K2 and K3. They
-/// stand by bar and rule, all at slot 0.
+/// Every rule that the cantus breaks, read as a voice of species 1 by itself: S2, S4 and S6 to S9,
+/// and K1, K2 and K3. They stand by bar and rule, all at slot 0.
 pub fn cantus_marks(alloc: Global, ex: &Exercise) -> Result<Vec<Mark>, Memory>
     requires { IsValid ex.now }
     ensures { IfOk result (λ marks. AreCantusMarks ex.now marks.items) }

@@ -1,4 +1,5 @@
-//! Marks: the broken rules of a setting, and of a cantus firmus. Charges: what a setting breaks and pays for.
+//! Marks: the broken rules of a setting, and of a cantus firmus. Charges: what a setting breaks and
+//! pays for.
 #![tactic(auto)]
 
 mod cantus;

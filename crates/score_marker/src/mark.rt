@@ -14,7 +14,8 @@ pub struct Mark {
     pub bar: u8,
     /// From 0 to 7.
     pub slot: u8,
-    /// From 1 to 28 the number of a rule; 31, 32 and 33 stand for K1, K2 and K3, the forms of a cantus firmus.
+    /// From 1 to 28 the number of a rule; 31, 32 and 33 stand for K1, K2 and K3, the forms of a
+    /// cantus firmus.
     pub rule: u8,
     pub voices: VoiceSet,
 }
@@ -43,7 +44,8 @@ pub(crate) fn mark_if(
     voices: VoiceSet,
 ) -> Result<(), Memory>
     requires { i < 192 }
-    ensures { OnOk result (marks.new.items ≡ marks.old.items ++ mark_where broken i rule voices.bits) }
+    ensures { OnOk result (marks.new.items ≡ marks.old.items ++ mark_where broken i rule
+        voices.bits) }
 {
     if broken {
         marks.push(mark_of(i, rule, voices))?;

@@ -68,7 +68,8 @@ fn put_price(out: &mut String, price: Price) -> Result<(), Memory>
 /// Appends the line of a mark.
 #[tactic(auto, unfolding(crate::specs::MarkLines::mark_line))]
 pub fn put_mark(out: &mut String, price: Price, mark: &Mark) -> Result<(), Memory>
-    ensures { OnOk result (string_bytes out.new ≡ string_bytes out.old ++ mark_line price mark.now) }
+    ensures { OnOk result (string_bytes out.new ≡ string_bytes out.old ++ mark_line price
+        mark.now) }
 {
     let bar = mark.bar;
     let slot = mark.slot;
@@ -83,7 +84,8 @@ pub fn put_mark(out: &mut String, price: Price, mark: &Mark) -> Result<(), Memor
 
 /// Appends the lines of marks.
 fn put_marks(out: &mut String, ex: &Exercise, marks: &[Mark]) -> Result<(), Memory>
-    ensures { OnOk result (string_bytes out.new ≡ string_bytes out.old ++ mark_lines ex.now marks.now) }
+    ensures { OnOk result (string_bytes out.new ≡ string_bytes out.old ++ mark_lines ex.now
+        marks.now) }
 {
     for mark in marks {
         let price = price_at(ex, mark.rule, mark.voices, mark.bar);
@@ -100,8 +102,8 @@ pub fn put_count(out: &mut String, count: usize) -> Result<(), Memory>
     Ok(())
 }
 
-/// The marks of a setting or a cantus of this exercise, as text: a line for each, which ends in ` relaxed PRICE` where the
-/// exercise gives its break a price, and a last line with their number.
+/// The marks of a setting or a cantus of this exercise, as text: a line for each, which ends in `
+/// relaxed PRICE` where the exercise gives its break a price, and a last line with their number.
 pub fn marks_text(alloc: Global, ex: &Exercise, marks: &[Mark]) -> Result<String, Memory>
     ensures { IfOk result (λ text. string_bytes text ≡ marks_text ex.now marks.now) }
 {

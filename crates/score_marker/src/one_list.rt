@@ -10,7 +10,8 @@ pub fn marks_are_one()
     ensures cantus { CantusMarksAreOne }
 {}
 
-/// A law, and nothing to run: what the charges of a setting cost comes to its penalty, and their broken rules are its marks.
+/// A law, and nothing to run: what the charges of a setting cost comes to its penalty, and their
+/// broken rules are its marks.
 pub fn charges_are_whole()
     ensures penalty { ChargesArePenalty }
     ensures marks { ChargesHaveMarks }

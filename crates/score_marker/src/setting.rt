@@ -15,7 +15,8 @@ use fux_pitch::Memory;
 use rule_law::Latest;
 use std::alloc::Global;
 
-/// Every set of voices, by the ascending lists of their voices: 0, 0 1, 0 1 2, 0 1 2 3, 0 1 3, 0 2, and so on.
+/// Every set of voices, by the ascending lists of their voices: 0, 0 1, 0 1 2, 0 1 2 3, 0 1 3, 0 2,
+/// and so on.
 const SETS_IN_ORDER: [u8; 15] = [1, 3, 7, 15, 11, 5, 13, 9, 2, 6, 14, 10, 4, 12, 8];
 
 fn voice_sets() -> &'static [u8]
@@ -39,8 +40,8 @@ fn mark_rule(
     requires place { i < length score.now.columns }
     requires past { IsPastOf ex.now (take i score.now.columns) past.now }
     requires latest { latest.now.pitches ≡ previous_pitches (reverse (take i score.now.columns)) }
-    ensures { OnOk result (marks.new.items
-        ≡ marks.old.items ++ marks_of_rule (breaks_of ex.now score.now.columns) sets_in_order i rule) }
+    ensures { OnOk result (marks.new.items ≡ marks.old.items
+        ++ marks_of_rule (breaks_of ex.now score.now.columns) sets_in_order i rule) }
 {
     for bits in voice_sets() {
         let voices = VoiceSet { bits: *bits };
@@ -67,7 +68,8 @@ pub(crate) fn mark_place(
     requires complete { IsComplete ex.now score.now }
     requires place { i < length score.now.columns }
     requires past { IsPastOf ex.now (take i score.now.columns) past.now }
-    ensures { OnOk result (marks.new.items ≡ marks.old.items ++ marks_at ex.now score.now.columns i) }
+    ensures { OnOk result (marks.new.items ≡ marks.old.items ++ marks_at ex.now score.now.columns
+        i) }
 {
     let latest = past.latest();
     for rule in every_rule() {
@@ -76,8 +78,8 @@ pub(crate) fn mark_place(
     Ok(())
 }
 
-/// Every broken rule of a complete score, relaxed ones among them: by bar, slot and rule, and then by the voices as an
-/// ascending list.
+/// Every broken rule of a complete score, relaxed ones among them: by bar, slot and rule, and then
+/// by the voices as an ascending list.
 pub fn marks(alloc: Global, ex: &Exercise, score: &Score) -> Result<Vec<Mark>, Memory>
     requires valid { IsValid ex.now }
     requires complete { IsComplete ex.now score.now }

@@ -132,7 +132,8 @@ fn kept_of_line<G: Gauge>(gauge: &G, ex: &Exercise, score: &Score, v: u8) -> G::
     kept
 }
 
-/// Appends what a gauge of this number and value costs over the line of a voice, if it costs something.
+/// Appends what a gauge of this number and value costs over the line of a voice, if it costs
+/// something.
 #[tactic(auto, unfolding(crate::specs::Charges::line_charge))]
 fn charge_value(
     charges: &mut Vec<Charge>,
@@ -225,9 +226,10 @@ fn charge_lines(
     Ok(())
 }
 
-/// All that a complete score breaks and pays for. Place by place stand the broken rules, as in `marks`, and then the tolls
-/// that cost something there, by their numbers; after the last place, for each free voice from the lowest, the gauges that
-/// cost something. Each cost is a count times a weight of the sheet.
+/// All that a complete score breaks and pays for. Place by place stand the broken rules, as in
+/// `marks`, and then the tolls that cost something there, by their numbers; after the last place,
+/// for each free voice from the lowest, the gauges that cost something. Each cost is a count times
+/// a weight of the sheet.
 pub fn charges(
     alloc: Global,
     ex: &Exercise,
@@ -236,7 +238,8 @@ pub fn charges(
 ) -> Result<Vec<Charge>, Memory>
     requires valid { IsValid ex.now }
     requires complete { IsComplete ex.now score.now }
-    ensures { IfOk result (λ charges. charges.items ≡ words.charges ex.now sheet.now score.now.columns) }
+    ensures { IfOk result (λ charges. charges.items ≡ words.charges ex.now sheet.now
+        score.now.columns) }
 {
     let mut charges = Vec::new(alloc);
     charge_places(&mut charges, alloc, ex, sheet, score)?;

@@ -40,7 +40,8 @@ fn put_line(out: &mut String, charge: LineCharge) -> Result<(), Memory>
 
 /// Appends the line of a charge.
 fn put_charge(out: &mut String, ex: &Exercise, charge: Charge) -> Result<(), Memory>
-    ensures { OnOk result (string_bytes out.new ≡ string_bytes out.old ++ charge_line ex.now charge) }
+    ensures { OnOk result (string_bytes out.new ≡ string_bytes out.old ++ charge_line ex.now
+        charge) }
 {
     match charge {
         Charge::Broken(mark) => put_mark(
@@ -55,7 +56,8 @@ fn put_charge(out: &mut String, ex: &Exercise, charge: Charge) -> Result<(), Mem
 
 /// Appends the lines of charges.
 fn put_charges(out: &mut String, ex: &Exercise, charges: &[Charge]) -> Result<(), Memory>
-    ensures { OnOk result (string_bytes out.new ≡ string_bytes out.old ++ charge_lines ex.now charges.now) }
+    ensures { OnOk result (string_bytes out.new ≡ string_bytes out.old ++ charge_lines ex.now
+        charges.now) }
 {
     for charge in charges {
         put_charge(out, ex, *charge)?;
@@ -85,15 +87,16 @@ pub fn count_marks(charges: &[Charge]) -> usize
     count
 }
 
-/// What a setting of this exercise breaks and pays for, as text: a line for each charge, then its penalty, and how many rules
-/// it breaks.
+/// What a setting of this exercise breaks and pays for, as text: a line for each charge, then its
+/// penalty, and how many rules it breaks.
 pub fn weighing_text(
     alloc: Global,
     ex: &Exercise,
     penalty: u64,
     charges: &[Charge],
 ) -> Result<String, Memory>
-    ensures { IfOk result (λ text. string_bytes text ≡ words.weighing_text ex.now penalty charges.now) }
+    ensures { IfOk result (λ text. string_bytes text ≡ words.weighing_text ex.now penalty
+        charges.now) }
 {
     let mut out = String::new(alloc);
     put_charges(&mut out, ex, charges)?;

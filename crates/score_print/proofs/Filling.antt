@@ -7,7 +7,8 @@ use Rattle.score_print.specs.Shown.{slots_shown}
 use Rattle.score_print.specs.Systems.{HoldMost, HoldsMost, IsWrapped, fits, printed_system}
 use Rattle.score_print.proofs.RowSteps.{range-last}
 
--- the systems from the one that begins with a bar and has those before another, where so many bars are left
+-- the systems from the one that begins with a bar and has those before another, where so many bars
+-- are left
 abbrev pub systems_from : (List ℕ → Bool) → ℕ → ℕ → ℕ → List (List ℕ)
 systems_from fits first bar zero = range_with_len first (bar - first) ∷ []
 systems_from fits first bar (suc left) =

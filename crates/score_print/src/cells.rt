@@ -11,7 +11,8 @@ use unicode_width::UnicodeWidthStr;
 /// What is printed for a cell: at most three characters of at most four bytes.
 type Printed = ArrayString<12>;
 
-/// What is printed for a character of a pitch's name: `♯` for `#`, `♭` for `b`, and each other one as it is.
+/// What is printed for a character of a pitch's name: `♯` for `#`, `♭` for `b`, and each other one
+/// as it is.
 fn printed_char(byte: u8) -> char
     ensures { result ≡ printed_char byte }
 {

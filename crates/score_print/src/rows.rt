@@ -30,7 +30,8 @@ pub fn column_width(ex: &Exercise, i: usize) -> usize
 fn put_column(out: &mut String, ex: &Exercise, v: u8, i: usize) -> Result<(), Memory>
     requires valid { IsValid ex.now }
     requires there { i < 8 * ex.now.bars }
-    ensures { OnOk result (string_bytes out.new ≡ string_bytes out.old ++ printed_column ex.now v i) }
+    ensures { OnOk result (string_bytes out.new ≡ string_bytes out.old ++ printed_column ex.now v
+        i) }
 {
     put_cell(out, shown_at(ex, v, i), column_width(ex, i))
 }
@@ -61,7 +62,8 @@ fn put_bar(out: &mut String, ex: &Exercise, slots: usize, v: u8, bar: u8) -> Res
     requires slots { slots ≤ 8 }
     requires first { 1 ≤ bar }
     requires there { bar ≤ ex.now.bars }
-    ensures { OnOk result (string_bytes out.new ≡ string_bytes out.old ++ printed_bar ex.now slots v bar) }
+    ensures { OnOk result (string_bytes out.new ≡ string_bytes out.old ++ printed_bar ex.now slots v
+        bar) }
 {
     out.push_str("| ")?;
     put_columns(out, ex, v, 8 * (usize::from(bar) - 1), slots)?;

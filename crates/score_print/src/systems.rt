@@ -70,7 +70,8 @@ fn put_number(out: &mut String, ex: &Exercise, slots: usize, bar: u8) -> Result<
     requires slots { slots ≤ 8 }
     requires first { 1 ≤ bar }
     requires there { bar ≤ ex.now.bars }
-    ensures { OnOk result (string_bytes out.new ≡ string_bytes out.old ++ printed_number ex.now slots bar) }
+    ensures { OnOk result (string_bytes out.new ≡ string_bytes out.old ++ printed_number ex.now
+        slots bar) }
 {
     write!(out, "{bar}")?;
     put_spaces(out, bar_width(ex, slots, bar).saturating_sub(digits(bar)))?;

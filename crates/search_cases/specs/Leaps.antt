@@ -17,7 +17,8 @@ use Rattle.chain_sums.specs.Moves.{AreLeastMoves, moves_sum}
 abbrev pub distance : Pitch → Pitch → ℕ
 distance p q = (degree_of p - degree_of q) + (degree_of q - degree_of p)
 
--- a note that starts costs the degrees from the note before it, which isn't of its degree, and one where there is none
+-- a note that starts costs the degrees from the note before it, which isn't of its degree, and one
+-- where there is none
 abbrev pub leap_from : Option Pitch → Pitch → Option ℕ
 leap_from None q = Some 1
 leap_from (Some p) q = if degree_of p == degree_of q then None else Some (distance p q)

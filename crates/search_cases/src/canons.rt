@@ -31,7 +31,8 @@ fn put_voice(text: &mut String, score: &Score, v: usize) -> Result<(), Fail> {
 
 /// The notes of both voices that a path leads to, and their penalty.
 fn found_text(alloc: Global, space: &CanonSpace, path: &[u16], penalty: u64) -> Result<String, Fail>
-    requires { IsFirstLeast (live_at space.now.canon space.now.sheet) space.now.canon.bars path.now penalty }
+    requires { IsFirstLeast (live_at space.now.canon space.now.sheet) space.now.canon.bars path.now
+        penalty }
 {
     let score = canon_score(alloc, space, path)?;
     let mut text = String::new(alloc);

@@ -1,5 +1,6 @@
-//! Canons with what is to be found: the text with `;` for each line feed, the weights where they aren't the usual ones, the budget, and
-//! the notes of both voices at the beginnings of bars with their penalty, `none`, or the bound.
+//! Canons with what is to be found: the text with `;` for each line feed, the weights where they
+//! aren't the usual ones, the budget, and the notes of both voices at the beginnings of bars with
+//! their penalty, `none`, or the bound.
 
 /// What a search answers.
 pub const CASES: &str = "\

@@ -1,7 +1,9 @@
-//! What is asked with what is to be found: the mode, the bars and the ends of the range, the weights where they aren't the usual ones, the
-//! budget, and the cantus with its penalty, `none`, or the bound.
+//! What is asked with what is to be found: the mode, the bars and the ends of the range, the
+//! weights where they aren't the usual ones, the budget, and the cantus with its penalty, `none`,
+//! or the bound.
 
-/// What a search answers. Of each mode three cantus stand with the least budgets that they are found within.
+/// What a search answers. Of each mode three cantus stand with the least budgets that they are
+/// found within.
 pub const CASES: &str = "\
 dorian 3 C4 F4|-|1000000|D4 E4 D4 3
 dorian 4 C4 A4|-|1000000|D4 C4 E4 D4 4

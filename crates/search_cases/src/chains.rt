@@ -10,8 +10,8 @@ use penalty_sheet::{Sheet, default_sheet};
 use std::alloc::Global;
 use std::test::Fail;
 
-/// The range of voice 1, its species, and the least sum over the chains: one for the first note and at least one for each
-/// later one, of which there are fewest where the voice begins with a rest.
+/// The range of voice 1, its species, and the least sum over the chains: one for the first note and
+/// at least one for each later one, of which there are fewest where the voice begins with a rest.
 const CASES: [(&str, &str, u8, Option<u64>); 5] = [
     ("A3", "E4", 1, Some(3)),
     ("B3", "D4", 2, Some(4)),
@@ -50,7 +50,8 @@ fn exercise(alloc: Global, low: &str, high: &str, species: u8) -> Result<Exercis
     })
 }
 
-/// Whether the tables keep the menu of a place, and agree with the listing behind each column of it.
+/// Whether the tables keep the menu of a place, and agree with the listing behind each column of
+/// it.
 fn agree_at(alloc: Global, links: &Leaps<'_>, tables: &Tables, i: usize) -> Result<bool, Fail> {
     if i >= links.places() {
         return Ok(true);
@@ -85,8 +86,9 @@ fn tables_agree_with_the_listing(rt: HostRuntime) -> Result<(), Fail> {
     Ok(())
 }
 
-/// Exercises over the cantus firmus D3 E3 D3: the species of voice 1, the ranges of the free voices from the lowest, and rules that
-/// are relaxed: those of pairs (4, 5, 12, 16, 17) and of columns (10, 11, 13, 14, 23, 24).
+/// Exercises over the cantus firmus D3 E3 D3: the species of voice 1, the ranges of the free voices
+/// from the lowest, and rules that are relaxed: those of pairs (4, 5, 12, 16, 17) and of columns
+/// (10, 11, 13, 14, 23, 24).
 const SETTINGS: [(u8, &[(&str, &str)], &[u8]); 8] = [
     (1, &[("A3", "D4")], &[]),
     (2, &[("B3", "C4")], &[4, 5]),

@@ -10,7 +10,8 @@ use fux_pitch::{Memory, Pitch};
 use std::alloc::Global;
 use std::marker::Model;
 
-/// The chains of an exercise, where voice 1 pays for its leaps and strikes no degree twice in a row.
+/// The chains of an exercise, where voice 1 pays for its leaps and strikes no degree twice in a
+/// row.
 #[derive(Drop)]
 pub struct Leaps<'a> {
     exercise: &'a Exercise<'a>,

@@ -1,5 +1,6 @@
-//! Cases of what searches: chains and tables of least sums, best settings, canons and new cantus that were worked out elsewhere.
-//! They stand in one crate above the trees, so that what carries the proofs is proved once.
+//! Cases of what searches: chains and tables of least sums, best settings, canons and new cantus
+//! that were worked out elsewhere. They stand in one crate above the trees, so that what carries
+//! the proofs is proved once.
 #![tactic(auto)]
 
 #[cfg(test)]

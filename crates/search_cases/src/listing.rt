@@ -10,7 +10,8 @@ use fux_pitch::Memory;
 use penalty_sheet::Sheet;
 use std::alloc::Global;
 
-/// The least sum over the chains that begin at a place, behind a column or behind none: each chain is gone through.
+/// The least sum over the chains that begin at a place, behind a column or behind none: each chain
+/// is gone through.
 pub(crate) fn least_of_list<L: Links>(
     alloc: Global,
     links: &L,

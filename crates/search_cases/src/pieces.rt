@@ -1,4 +1,5 @@
-//! The tables of a small exercise, cut into pieces: their floors, how often a gate is called, and two threads that meet in one row.
+//! The tables of a small exercise, cut into pieces: their floors, how often a gate is called, and
+//! two threads that meet in one row.
 
 ghost use Rattle.std.specs.Prelude.{◌≡◌, IfOk};
 ghost use Rattle.fux_grid.specs.Exercises.{IsValid};
@@ -38,7 +39,8 @@ const FLOORS: [(&str, usize, usize, u64); 9] = [
     ("D5 C#5 D5", 17, 24, 7),
 ];
 
-/// The places whose rows are worked. That of the last place needs no work, and within a bar each row is the one of the next place.
+/// The places whose rows are worked. That of the last place needs no work, and within a bar each
+/// row is the one of the next place.
 const WORKED: [usize; 5] = [0, 7, 8, 15, 16];
 
 fn exercise(alloc: Global) -> Result<Exercise<'static>, Fail>

@@ -109,7 +109,8 @@ fn found_text(
     path: &[u16],
     penalty: u64,
 ) -> Result<String, Fail>
-    requires { IsFirstLeast (live_at space.now.exercise space.now.sheet) (columns_in space.now.exercise) path.now penalty }
+    requires { IsFirstLeast (live_at space.now.exercise space.now.sheet)
+        (columns_in space.now.exercise) path.now penalty }
 {
     let score = score_of(alloc, space, path)?;
     let mut text = String::new(alloc);

@@ -1,5 +1,6 @@
-//! Exercises of two voices in first species whose best settings were worked out elsewhere, by fewer rules and tolls: a line for each with
-//! its mode, cantus, the range of voice 1, and the best notes of voice 1 with their penalty, or `-`.
+//! Exercises of two voices in first species whose best settings were worked out elsewhere, by fewer
+//! rules and tolls: a line for each with its mode, cantus, the range of voice 1, and the best notes
+//! of voice 1 with their penalty, or `-`.
 
 /// By S1, S2, S3, S12, S13, S14 and Q1, Q8, Q9.
 pub const FIRST: &str = "\

@@ -1,4 +1,5 @@
--- The written notes of a bar fill it and say its cells, ties join what is held, and each mark is at one note.
+-- The written notes of a bar fill it and say its cells, ties join what is held, and each mark is at
+-- one note.
 use Rattle.std.proofs.Common.{◌≡◌, ℕ, zero, suc, ◌+◌, ◌-◌, ◌*◌, ◌<◌, ◌≤◌, Bool, true, false, ◌==◌, ◌&&◌, cond, List, [], ◌∷◌, ◌++◌, IsTrue, drop, take, length, filter, replicate, refl, ap, sym, ◌∙◌, subst, add-one, append-nil, arith, nat_lt, is_some}
 use Rattle.std.specs.List.{flat_map}
 use Rattle.std.proofs.lemmas.Bool.{lt-ltb, ltb-false, ltb-true}

@@ -27,7 +27,8 @@ heard-again d heard p =
     elim (degree_of p == d) as (λ t. cond t altered (cond t altered heard) ≡ cond t altered heard)
     [ true ↦ refl | false ↦ refl ]
 
--- what is said of a degree behind cells: nothing where it isn't heard altered, nor where it won't be behind a note that goes on
+-- what is said of a degree behind cells: nothing where it isn't heard altered, nor where it won't
+-- be behind a note that goes on
 record IsSaid (d : ℕ) (newest : Cell) (before : List Cell) (said : ℤ) : Type 0 where
   plain : heard_on d false before ≡ false → said ≡ pos 0
   going_on : (p : Pitch) → IsTrue (cell_follows newest (Hold p))

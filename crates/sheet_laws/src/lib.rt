@@ -6,9 +6,9 @@ ghost use Rattle.sheet_laws.specs.Reading.{MarksAreAtNotes, NotesFillBars, Notes
 ghost use Rattle.written_notes.specs.Values.{ValuesAddUp};
 
 /// Laws, and nothing to run: the written notes of a bar fill it and say its cells; ties join what
-/// is held; who reads signs by custom, each to the end of its bar, hears each note as it is altered;
-/// the note values that so many slots are written with add up to them; and each mark is at one note
-/// of a voice.
+/// is held; who reads signs by custom, each to the end of its bar, hears each note as it is
+/// altered; the note values that so many slots are written with add up to them; and each mark is at
+/// one note of a voice.
 pub fn sheets_read_right()
     ensures filled { NotesFillBars }
     ensures cells { NotesSayCells }

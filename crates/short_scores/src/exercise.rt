@@ -61,7 +61,8 @@ fn has_line(lines: &[RangeLine], voice: u8) -> bool {
     false
 }
 
-/// The lines that begin with `range`, and a wide one for each voice that has none, but for that of the cantus.
+/// The lines that begin with `range`, and a wide one for each voice that has none, but for that of
+/// the cantus.
 fn ranges(alloc: Global, text: &str, voices: u8, cantus_voice: u8) -> Result<Vec<RangeLine>, Fail> {
     let (low, high) = (pitch_of("C3")?, pitch_of("D6")?);
     let mut ranges = Vec::new(alloc);
@@ -83,7 +84,8 @@ fn ranges(alloc: Global, text: &str, voices: u8, cantus_voice: u8) -> Result<Vec
     Ok(ranges)
 }
 
-/// A line for all bars as `16 3 30`: a rule, the bits of its voices or 0 for all sets of them, and a price.
+/// A line for all bars as `16 3 30`: a rule, the bits of its voices or 0 for all sets of them, and
+/// a price.
 fn relax_line(line: &str, bars: u8) -> Result<Relax, Fail> {
     let mut words = line.split(' ');
     let rule = number(words.next())?;
@@ -123,9 +125,9 @@ fn cantus(alloc: Global, text: &str) -> Result<Vec<Pitch>, Fail> {
     Err("no cantus".into())
 }
 
-/// The exercise of a text, for so many voices: a line with the mode, the species, the voice that has it and the voice of the cantus, and
-/// then a line that begins with `cantus`, and lines that begin with `range`, `relax` or `given`. Other lines are passed over. It may be no valid
-/// one.
+/// The exercise of a text, for so many voices: a line with the mode, the species, the voice that
+/// has it and the voice of the cantus, and then a line that begins with `cantus`, and lines that
+/// begin with `range`, `relax` or `given`. Other lines are passed over. It may be no valid one.
 pub fn any_exercise_of(alloc: Global, text: &str, voices: u8) -> Result<Exercise<'static>, Fail> {
     let mut words = text.lines().next().ok_or("no line")?.split(' ');
     let mode = mode_of(words.next().ok_or("no mode")?)?;
@@ -164,7 +166,8 @@ pub fn exercise_of(alloc: Global, text: &str, voices: u8) -> Result<Exercise<'st
     Ok(exercise)
 }
 
-/// The exercise of a text, and the score of its lines that have a colon: the voices, the lowest first.
+/// The exercise of a text, and the score of its lines that have a colon: the voices, the lowest
+/// first.
 pub fn case_of(alloc: Global, text: &str) -> Result<Case, Fail>
     ensures valid { IfOk result (λ case. IsValid case.exercise) }
     ensures voices { IfOk result (λ case. case.score.voices ≡ case.exercise.voices) }

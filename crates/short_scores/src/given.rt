@@ -5,7 +5,8 @@ use fux_grid::{Given, GivenBar};
 use std::alloc::Global;
 use std::test::Fail;
 
-/// What is given of a cell: `?` for nothing, `r` for a rest, `_` for a tie, a pitch behind `-` where it goes on and behind `+` where it starts.
+/// What is given of a cell: `?` for nothing, `r` for a rest, `_` for a tie, a pitch behind `-`
+/// where it goes on and behind `+` where it starts.
 fn given_of(word: &str) -> Result<Given, Fail> {
     Ok(match word {
         "?" => Given::Blank,

@@ -52,7 +52,8 @@ fn cells_of(alloc: Global, line: &str) -> Result<Vec<Cell>, Fail> {
     Ok(cells)
 }
 
-/// The score of the lines of voices, the lowest first. It is as long as the longest, and the others rest at their ends.
+/// The score of the lines of voices, the lowest first. It is as long as the longest, and the others
+/// rest at their ends.
 pub fn score_of(alloc: Global, lines: &[&str]) -> Result<Score, Fail> {
     let mut voices = Vec::new(alloc);
     let mut columns = 0;

@@ -1,5 +1,5 @@
--- The next event of what is left of a track (`events_more`, `events_fault`), and the next track of a file (`tracks_more`,
--- `tracks_over`).
+-- The next event of what is left of a track (`events_more`, `events_fault`), and the next track of
+-- a file (`tracks_more`, `tracks_over`).
 use Rattle.std.proofs.Common.{◌≡◌, ◌≢◌, ℕ, zero, suc, ◌+◌, ◌-◌, ◌<◌, ◌≤◌, Bool, true, false, List, [], ◌∷◌, length, Option, Some, None, Result, Ok, Err, refl, sym, ◌∙◌, ap, arith, cond, eqb, ne_eqb, subst}
 use Rattle.std.proofs.lemmas.Bool.{eqb-true, eqb-false}
 use Rattle.std.proofs.lemmas.List.{nil_from_length}

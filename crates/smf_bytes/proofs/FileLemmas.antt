@@ -1,5 +1,5 @@
--- What reading tells of a file are its events, up to the first fault, and just that (`file_told`, `file_is`,
--- `to_come_told`, `to_come_is`).
+-- What reading tells of a file are its events, up to the first fault, and just that (`file_told`,
+-- `file_is`, `to_come_told`, `to_come_is`).
 use Rattle.std.proofs.Common.{◌≡◌, ◌⊎◌, inl, inr, ℕ, zero, suc, ◌-◌, ◌≤◌, Bool, true, false, List, [], ◌∷◌, length, Option, Some, None, Result, Ok, Err, option_map, refl, sym, ◌∙◌, ap, arith, cond, subst, ltb}
 use Rattle.std.specs.Prelude.{◌↔◌}
 use Rattle.std.proofs.lemmas.Bool.{le-ltb, lt-ltb, ltb-true, ltb-false}

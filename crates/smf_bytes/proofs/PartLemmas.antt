@@ -1,4 +1,5 @@
--- What a part of a row reads is what stands there, or what is missing (`PartTold`), and just that (`Tells`).
+-- What a part of a row reads is what stands there, or what is missing (`PartTold`), and just that
+-- (`Tells`).
 use Rattle.std.proofs.Common.{◌≡◌, ℕ, zero, suc, ◌+◌, ◌-◌, ◌*◌, ◌<◌, ◌≤◌, Bool, true, false, List, [], ◌∷◌, ◌++◌, length, take, drop, Result, Ok, Err, refl, sym, ◌∙◌, ap, arith, cond, ltb}
 use Rattle.std.specs.Int.{Width, byte_len, from_be_bytes}
 use Rattle.std.proofs.lemmas.Bool.{le-ltb, lt-ltb, ltb-true, ltb-false}

@@ -1,4 +1,5 @@
--- One byte more of a quantity (`digits_last`, `digits_more`, `digits_short`), and the end of it (`digits_over`).
+-- One byte more of a quantity (`digits_last`, `digits_more`, `digits_short`), and the end of it
+-- (`digits_over`).
 use Rattle.std.proofs.Common.{◌≡◌, ℕ, suc, ◌+◌, ◌-◌, ◌*◌, ◌<◌, ◌≤◌, List, [], ◌∷◌, Ok, Err, refl, subst, arith}
 use Rattle.std.proofs.lemmas.Bool.{le-ltb, lt-ltb}
 use Rattle.smf_bytes.specs.declared.fault.ByteFault.{ByteFault}

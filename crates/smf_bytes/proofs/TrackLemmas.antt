@@ -1,4 +1,5 @@
--- The next track, chunk by chunk: what reading tells of it, and just that (`track_told`, `track_only`).
+-- The next track, chunk by chunk: what reading tells of it, and just that (`track_told`,
+-- `track_only`).
 use Rattle.std.proofs.Common.{◌≡◌, ◌≢◌, ℕ, zero, suc, ◌<◌, ◌≤◌, Bool, true, false, List, [], ◌∷◌, length, Result, Ok, Err, refl, sym, ◌∙◌, ap, arith, cond, eqb, ne_eqb, subst, inl}
 use Rattle.std.proofs.lemmas.Bool.{eqb-false, eqb-true}
 use Rattle.smf_bytes.specs.declared.fault.ByteFault.{ByteFault}

@@ -1,5 +1,5 @@
--- The chunks of a file and its header, as rows; and what is read of them, or the first fault. A file is given by its size
--- and the bytes that are left.
+-- The chunks of a file and its header, as rows; and what is read of them, or the first fault. A
+-- file is given by its size and the bytes that are left.
 use Rattle.std.specs.Prelude.{ℕ, zero, suc, ◌==◌, List, length, Result, Ok, Err, nat_lt, if◌then◌else◌}
 use Rattle.std.specs.Int.{w16, w32}
 use Rattle.smf_bytes.specs.declared.fault.ByteFault.{ByteFault}

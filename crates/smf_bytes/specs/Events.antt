@@ -1,4 +1,5 @@
--- What is read of a file: its events, each with its track, its time and its place, up to the first fault.
+-- What is read of a file: its events, each with its track, its time and its place, up to the first
+-- fault.
 use Rattle.std.specs.Prelude.{◌≡◌, ◌<◌, ◌^◌, ℕ, zero, suc, ◌+◌, ◌-◌, ◌==◌, List, [], ◌∷◌, length, Option, Some, None, Result, Ok, Err, option_map, nat_lt, if◌then◌else◌}
 use Rattle.smf_bytes.specs.declared.fault.ByteFault.{ByteFault}
 use Rattle.smf_bytes.specs.declared.fault.ByteFault.TheVariants.{NoEnd, TooLong}
@@ -28,7 +29,8 @@ pub record IsWithinBounds (event : declared.Event) : Type 0 where
   pub tick : event.tick < 2 ^ 48
   pub message : IsInRange (seen_kind event.kind)
 
--- what is left of a track: its number, the offset of its end, the time and the status that hold, and its bytes
+-- what is left of a track: its number, the offset of its end, the time and the status that hold,
+-- and its bytes
 pub record Left : Type 0 where
   pub number : ℕ
   pub end : ℕ
@@ -157,7 +159,8 @@ abbrev pub answer_seen : Result declared.Event ByteFault → Result Timed ByteFa
 answer_seen (Ok event) = Ok (timed_seen event)
 answer_seen (Err fault) = Err fault
 
--- the answer is the first of what was to come, and the others are still to come; no answer, where nothing was
+-- the answer is the first of what was to come, and the others are still to come; no answer, where
+-- nothing was
 abbrev pub TakesFirst : Answers → Option (Result declared.Event ByteFault) → Answers → Type 0
 TakesFirst before None after = (before ≡ []) × (after ≡ [])
 TakesFirst before (Some answer) after = before ≡ answer_seen answer ∷ after

@@ -1,4 +1,5 @@
--- Which bytes are a file of these events, and where bytes first go wrong: all before is right, and here is the fault.
+-- Which bytes are a file of these events, and where bytes first go wrong: all before is right, and
+-- here is the fault.
 use Rattle.std.specs.Prelude.{◌≡◌, ◌≢◌, ◌⊎◌, ◌<◌, ◌≤◌, ℕ, zero, suc, ◌-◌, true, false, List, [], ◌∷◌, length, Option, Some, None, Result, Ok, Err}
 use Rattle.smf_bytes.specs.declared.fault.ByteFault.{ByteFault}
 use Rattle.smf_bytes.specs.declared.fault.ByteFault.TheVariants as faults
@@ -13,21 +14,23 @@ use Rattle.smf_bytes.specs.Events.{Answers, File, Left, begun, event_then, left_
 
 -- ---- a track
 
--- at the front of what is left of a track stands an event, behind its delta time, and these bytes behind it
+-- at the front of what is left of a track stands an event, behind its delta time, and these bytes
+-- behind it
 pub record IsNext (left : Left) (delta : ℕ) (event : Event) (rest : List ℕ) : Type 0 where
   pub behind : List ℕ
   pub time : IsQuantity left.rest delta behind
   pub stands : IsRow (event_row left.running) behind event rest
 
--- no event stands there: the track is over without its end, the delta time is none, or behind it is no event
+-- no event stands there: the track is over without its end, the delta time is none, or behind it is
+-- no event
 pub data IsNextFault (left : Left) (fault : ByteFault) : Type 0 where
   no_end : left.rest ≡ [] → fault ≡ faults.NoEnd left.end → IsNextFault left fault
   in_time : left.rest ≢ [] → LacksQuantity left.end left.rest fault → IsNextFault left fault
   in_event : (delta : ℕ) (behind : List ℕ) → IsQuantity left.rest delta behind
       → IsRowFault (event_row left.running) left.end behind fault → IsNextFault left fault
 
--- the answers are the events of what is left of a track, and behind its end those of which this is said; or up to the
--- first fault
+-- the answers are the events of what is left of a track, and behind its end those of which this is
+-- said; or up to the first fault
 abbrev pub AreOfTrack : (Answers → Type 0) → Left → Answers → Type 0
 AreOfTrack Behind left [] = ⊥
 AreOfTrack Behind left (Err fault ∷ answers) = IsNextFault left fault × (answers ≡ [])
@@ -45,7 +48,8 @@ ArePassed [] bytes rest = bytes ≡ rest
 ArePassed (chunk ∷ chunks) bytes rest =
     (after : List ℕ) × IsRow chunk_row bytes chunk after × (chunk.kind ≢ TRACK) × ArePassed chunks after rest
 
--- the next track has this body: its chunk stands at the front, behind chunks of other types that are passed over
+-- the next track has this body: its chunk stands at the front, behind chunks of other types that
+-- are passed over
 pub record IsTrack (bytes body rest : List ℕ) : Type 0 where
   pub chunks : List Chunk
   pub behind : List ℕ
@@ -59,8 +63,8 @@ pub record IsTrackFault (size : ℕ) (bytes : List ℕ) (fault : ByteFault) : Ty
   pub passed : ArePassed chunks bytes behind
   pub lacks : IsRowFault chunk_row size behind fault
 
--- the answers are the events of so many tracks from one on, up to the first fault; what follows the last track is
--- passed over
+-- the answers are the events of so many tracks from one on, up to the first fault; what follows the
+-- last track is passed over
 abbrev pub AreOfTracks : ℕ → ℕ → ℕ → List ℕ → Answers → Type 0
 AreOfTracks zero number size bytes answers = answers ≡ []
 AreOfTracks (suc more) number size bytes answers =
@@ -70,7 +74,8 @@ AreOfTracks (suc more) number size bytes answers =
 
 -- ---- a file
 
--- a header stands at the front: in its chunk are its three numbers, and what follows them there is passed over
+-- a header stands at the front: in its chunk are its three numbers, and what follows them there is
+-- passed over
 pub record IsHeader (bytes : List ℕ) (header : Header) (rest : List ℕ) : Type 0 where
   pub body : List ℕ
   pub more : List ℕ
@@ -84,7 +89,8 @@ pub data IsHeaderFault (size : ℕ) (bytes : List ℕ) (fault : ByteFault) : Typ
   in_fields : (body rest : List ℕ) → IsRow header_row bytes body rest → IsRowFault fields_row size body fault
       → IsHeaderFault size bytes fault
 
--- the bytes are this file: a header, and the answers up to the first fault; or they are too long, or have no header
+-- the bytes are this file: a header, and the answers up to the first fault; or they are too long,
+-- or have no header
 abbrev pub IsFile : List ℕ → Result File ByteFault → Type 0
 IsFile bytes (Ok file) =
     (length bytes ≤ 1048576) × ((rest : List ℕ) × IsHeader bytes file.header rest

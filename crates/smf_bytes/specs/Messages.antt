@@ -82,8 +82,8 @@ abbrev pub running_row : Option ℕ → ℕ → Row Event
 running_row (Some status) first = behind_first status first
 running_row None first = Row.refused Status
 
--- what the first byte begins: FF a meta event, F0 and F7 a system event, a data byte a message with the status that holds,
--- and 80 to EF a message of a channel
+-- what the first byte begins: FF a meta event, F0 and F7 a system event, a data byte a message with
+-- the status that holds, and 80 to EF a message of a channel
 abbrev pub begun_by : Option ℕ → ℕ → Row Event
 begun_by running first =
     if first == 0xFF then meta_row

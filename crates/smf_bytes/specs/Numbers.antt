@@ -1,5 +1,5 @@
--- Numbers at the front of bytes: what is read, and the bytes behind it, or the first fault. Bytes are those
--- up to an offset at which the file or its chunk ends.
+-- Numbers at the front of bytes: what is read, and the bytes behind it, or the first fault. Bytes
+-- are those up to an offset at which the file or its chunk ends.
 use Rattle.std.specs.Prelude.{◌≡◌, ℕ, zero, suc, ◌+◌, ◌-◌, ◌*◌, List, [], ◌∷◌, length, take, drop, Result, Ok, Err, nat_lt, if◌then◌else◌}
 use Rattle.std.specs.Int.{Width, byte_len, from_be_bytes}
 use Rattle.smf_bytes.specs.declared.fault.ByteFault.{ByteFault}
@@ -36,8 +36,9 @@ bytes_in end count bytes =
 abbrev pub number_in : Width → ℕ → List ℕ → Result (ℕ × List ℕ) ByteFault
 number_in w end bytes = bytes_in end (byte_len w) bytes >>= λ x. Ok (from_be_bytes w x.0, x.1)
 
--- a quantity of at most so many bytes more, of which the bytes before stand for `high`: a byte has seven bits,
--- and its top bit is set where another byte follows; the whole quantity begins at `begin`
+-- a quantity of at most so many bytes more, of which the bytes before stand for `high`: a byte has
+-- seven bits, and its top bit is set where another byte follows; the whole quantity begins at
+-- `begin`
 unfoldable pub digits_in : ℕ → ℕ → ℕ → ℕ → List ℕ → Result (ℕ × List ℕ) ByteFault
 digits_in zero begin high end bytes = Err (LongNumber begin)
 digits_in (suc more) begin high end [] = Err (Truncated end)

@@ -1,13 +1,15 @@
--- What bytes are made of, as rows of parts of which each may hang on those before it: what a row of parts says, and where
--- bytes first go wrong. An offset counts from the beginning of the file: bytes are those up to an offset, their end.
+-- What bytes are made of, as rows of parts of which each may hang on those before it: what a row of
+-- parts says, and where bytes first go wrong. An offset counts from the beginning of the file:
+-- bytes are those up to an offset, their end.
 use Rattle.std.specs.Prelude.{◌≡◌, ◌⊎◌, ◌<◌, ◌≤◌, ◌+◌, ◌-◌, ◌*◌, ℕ, suc, List, [], ◌∷◌, ◌++◌, map, length, Result, Ok, Err}
 use Rattle.std.specs.Int.{Width, byte_len, from_be_bytes}
 use Rattle.smf_bytes.specs.declared.fault.ByteFault.{ByteFault}
 use Rattle.smf_bytes.specs.declared.fault.ByteFault.TheVariants.{Truncated, LongNumber, Status}
 use Rattle.smf_bytes.specs.Numbers.{◌>>=◌, byte_in, bytes_in, data_in, number_in, quantity_in}
 
--- a row of parts: nothing more, and what was said; the byte before is refused, which is a fault by its offset; or a byte,
--- a data byte, a number, a quantity or so many bytes, and the parts behind it by what it says
+-- a row of parts: nothing more, and what was said; the byte before is refused, which is a fault by
+-- its offset; or a byte, a data byte, a number, a quantity or so many bytes, and the parts behind
+-- it by what it says
 pub data Row (A : Type 0) : Type 0 where
   says : A → Row A
   refused : (ℕ → ByteFault) → Row A
@@ -39,7 +41,8 @@ value_of high (d ∷ digits) = value_of (128 * high + d) digits
 abbrev pub marked : List ℕ → List ℕ
 marked digits = map (λ d. 128 + d) digits
 
--- at the front stands a quantity of so many bytes at most: its digits of seven bits, the top bit set in all but the last
+-- at the front stands a quantity of so many bytes at most: its digits of seven bits, the top bit
+-- set in all but the last
 pub record AreDigits (most high : ℕ) (bytes : List ℕ) (n : ℕ) (rest : List ℕ) : Type 0 where
   pub digits : List ℕ
   pub last : ℕ
@@ -48,7 +51,8 @@ pub record AreDigits (most high : ℕ) (bytes : List ℕ) (n : ℕ) (rest : List
   pub stands : bytes ≡ marked digits ++ last ∷ rest
   pub value : n ≡ 128 * value_of high digits + last
 
--- the bytes are over before its last digit, or so many digits stand there and each has the top bit set
+-- the bytes are over before its last digit, or so many digits stand there and each has the top bit
+-- set
 pub data LacksDigits (most begin end : ℕ) (bytes : List ℕ) (fault : ByteFault) : Type 0 where
   short : (digits : List ℕ) → length digits < most → bytes ≡ marked digits → fault ≡ Truncated end
       → LacksDigits most begin end bytes fault

@@ -15,7 +15,8 @@ const HEADER: u32 = 0x4D54_6864;
 /// `MTrk`, the type of a track.
 const TRACK: u32 = 0x4D54_726B;
 
-/// What the header says: the format, how many tracks there are, and how many ticks a quarter note has.
+/// What the header says: the format, how many tracks there are, and how many ticks a quarter note
+/// has.
 #[derive(Clone, Copy)]
 pub(crate) struct Header {
     pub(crate) format: u16,
@@ -35,7 +36,8 @@ pub(crate) struct Chunk<'a> {
 #[tactic(auto, unfolding(crate::specs::Rows::row_in))]
 fn chunk_of(size: usize, bytes: &[u8]) -> Result<Chunk<'_>, ByteFault>
     ensures value { Gives chunk_seen result (row_in chunk_row size bytes.now) }
-    ensures shorter { IfOk result (λ chunk. length chunk.bytes.now + length chunk.rest.now < length bytes.now) }
+    ensures shorter { IfOk result (λ chunk. length chunk.bytes.now + length chunk.rest.now
+        < length bytes.now) }
 {
     let (kind, rest) = u32_of(size, bytes)?;
     let (count, rest) = u32_of(size, rest)?;
@@ -47,7 +49,8 @@ fn chunk_of(size: usize, bytes: &[u8]) -> Result<Chunk<'_>, ByteFault>
 pub(crate) fn track_of(size: usize, bytes: &[u8]) -> Result<Chunk<'_>, ByteFault>
     ensures value { MatchResult result (λ chunk. IsTrack bytes.now chunk.bytes.now chunk.rest.now)
         (λ fault. IsTrackFault size bytes.now fault) }
-    ensures shorter { IfOk result (λ chunk. length chunk.bytes.now + length chunk.rest.now < length bytes.now) }
+    ensures shorter { IfOk result (λ chunk. length chunk.bytes.now + length chunk.rest.now
+        < length bytes.now) }
 {
     let mut rest = bytes;
     while !rest.is_empty() {
@@ -63,7 +66,8 @@ pub(crate) fn track_of(size: usize, bytes: &[u8]) -> Result<Chunk<'_>, ByteFault
 /// The header, where its format and its division are read.
 #[tactic(auto, unfolding(crate::specs::Rows::row_in))]
 fn checked_header(header: Header) -> Result<Header, ByteFault>
-    ensures value { (size : ℕ) (rest : List ℕ) → Gives (λ h. (h, rest)) result (row_in (checked_row header) size rest) }
+    ensures value { (size : ℕ) (rest : List ℕ) → Gives (λ h. (h, rest)) result
+        (row_in (checked_row header) size rest) }
     ensures ticks { IfOk result (λ h. 0 < h.division) }
 {
     if header.format > 2 {

@@ -7,8 +7,8 @@ use crate::fault::ByteFault;
 use crate::messages::{Kind, event_of};
 use crate::numbers::quantity_of;
 
-/// An event: its track, counted from 0 over the tracks of the file, when it comes, in ticks from the beginning of
-/// its track, the offset at which its delta time begins, and what it is.
+/// An event: its track, counted from 0 over the tracks of the file, when it comes, in ticks from
+/// the beginning of its track, the offset at which its delta time begins, and what it is.
 #[derive(Clone, Copy, Debug, PartialEq, Eq)]
 pub struct Event<'a> {
     pub track: u16,
@@ -54,7 +54,8 @@ impl<'a> Track<'a> {
     /// The next event, and what is left behind it.
     #[tactic(auto, unfolding(crate::specs::Events::next_in))]
     fn next(self) -> Result<(Event<'a>, Option<Track<'a>>), ByteFault>
-        ensures value { Gives (λ x. (timed_seen x.0, option_map left_seen x.1)) result (next_in (left_seen self.entry)) }
+        ensures value { Gives (λ x. (timed_seen x.0, option_map left_seen x.1)) result
+            (next_in (left_seen self.entry)) }
         ensures bounds { IfOk result (λ x. IsWithinBounds x.0) }
     {
         if self.rest.is_empty() {
@@ -91,7 +92,11 @@ impl<'a> Events<'a> {
     pub(crate) fn behind(header: Header, size: usize, rest: &'a [u8]) -> Events<'a>
         requires within { length rest.now ≤ size }
         requires short { size ≤ 2 ^ 20 }
-        ensures { file_seen result ≡ record { header = header; answers = tracks_in header.tracks 0 size rest.entry.now } }
+        ensures { file_seen result ≡ record {
+          header = header;
+          answers = tracks_in header.tracks 0
+              size rest.entry.now;
+        } }
     {
         Events {
             header,
@@ -102,7 +107,8 @@ impl<'a> Events<'a> {
         }
     }
 
-    /// The format: 0 where the file is one track for all channels, 1 where its tracks sound together.
+    /// The format: 0 where the file is one track for all channels, 1 where its tracks sound
+    /// together.
     pub fn format(&self) -> u16
         ensures { result ≡ self.now.header.format }
     {
@@ -202,10 +208,11 @@ impl<'a> Events<'a> {
         }
     }
 
-    /// The next event, or the fault that stands in its place. After the last event and after a fault there is none.
+    /// The next event, or the fault that stands in its place. After the last event and after a
+    /// fault there is none.
     pub fn next(&mut self) -> Option<Result<Event<'a>, ByteFault>>
-        ensures first { (before after : Answers) → AreToCome self.old before → AreToCome self.new after →
-            TakesFirst before result after }
+        ensures first { (before after : Answers) → AreToCome self.old before → AreToCome self.new
+            after → TakesFirst before result after }
         ensures bounds { IfSome result (λ answer. IfOk answer IsWithinBounds) }
         ensures kept { self.new.header ≡ self.old.header }
     {

@@ -16,7 +16,8 @@ pub enum ByteFault {
     Chunk { at: usize },
     /// A quantity that begins here has more than four bytes.
     LongNumber { at: usize },
-    /// A data byte without a status, a status of no channel message, or a status where a data byte is needed.
+    /// A data byte without a status, a status of no channel message, or a status where a data byte
+    /// is needed.
     Status { at: usize },
     /// The tracks of the file are patterns of their own.
     Format2,

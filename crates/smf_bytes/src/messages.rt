@@ -140,7 +140,8 @@ fn system_of(end: usize, bytes: &[u8]) -> Result<Taken<'_>, ByteFault>
     })
 }
 
-/// The event that this byte begins, and what stands behind the byte; `running` is the status that holds before it.
+/// The event that this byte begins, and what stands behind the byte; `running` is the status that
+/// holds before it.
 #[tactic(auto, unfolding(crate::specs::Rows::row_in))]
 fn event_behind(
     first: u8,
@@ -172,7 +173,8 @@ fn event_behind(
     Err(ByteFault::Status { at: here })
 }
 
-/// The event at the front of the bytes, behind its delta time; `running` is the status that holds before it.
+/// The event at the front of the bytes, behind its delta time; `running` is the status that holds
+/// before it.
 #[tactic(auto, unfolding(crate::specs::Rows::row_in))]
 pub(crate) fn event_of(
     running: Option<u8>,

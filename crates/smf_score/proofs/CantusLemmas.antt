@@ -1,4 +1,5 @@
--- A bar that is one whole note has its cells (`whole_is`, `whole_back`); so has a cantus (`cantus_is`, `cantus_back`).
+-- A bar that is one whole note has its cells (`whole_is`, `whole_back`); so has a cantus
+-- (`cantus_is`, `cantus_back`).
 use Rattle.std.proofs.Common.{◌≡◌, ℕ, zero, suc, ◌+◌, ◌-◌, ◌*◌, ◌<◌, ◌≤◌, Bool, true, false, List, [], ◌∷◌, ◌++◌, drop, take, length, replicate, Option, Some, None, Ok, refl, sym, ◌∙◌, ap, arith, cond, add-one}
 use Rattle.std.specs.List.{list_all}
 use Rattle.std.specs.Option.{ok_or}

@@ -1,4 +1,5 @@
--- The notes of a written file sound as the score does, each pitch as its key is spelled (`lines_back`).
+-- The notes of a written file sound as the score does, each pitch as its key is spelled
+-- (`lines_back`).
 use Rattle.std.proofs.Common.{◌≡◌, ℕ, suc, ◌+◌, ◌-◌, ◌*◌, IsTrue, List, [], ◌∷◌, ◌++◌, length, map, replicate, true, refl, sym, ◌∙◌, ap, arith}
 use Rattle.std.specs.Prelude.{reverse}
 use Rattle.std.proofs.Math.ListN.{get_or-map}

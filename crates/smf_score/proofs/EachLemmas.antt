@@ -1,5 +1,5 @@
--- One element more of those that are read in turn (`each_next`, `each_fails`, `each_done`), what was read of the first
--- (`each_ok`), and what is read of each of a list (`each_map`).
+-- One element more of those that are read in turn (`each_next`, `each_fails`, `each_done`), what
+-- was read of the first (`each_ok`), and what is read of each of a list (`each_map`).
 use Rattle.std.proofs.Common.{◌≡◌, List, [], ◌∷◌, ◌++◌, map, Result, Ok, Err, refl, sym, ◌∙◌, ap, append_assoc, subst}
 use Rattle.std.proofs.lemmas.List.{append-nil}
 use Rattle.smf_score.specs.declared.fault.SmfFault.{SmfFault}

@@ -1,4 +1,5 @@
--- One cell more of a line: its notes as bytes (`start_bytes`, `other_notes`), and one track more (`tracks_more`).
+-- One cell more of a line: its notes as bytes (`start_bytes`, `other_notes`), and one track more
+-- (`tracks_more`).
 use Rattle.std.proofs.Common.{◌≡◌, ℕ, suc, ◌+◌, ◌-◌, ◌<◌, ◌≤◌, List, ◌∷◌, ◌++◌, refl, sym, arith, append_assoc, add-one}
 use Rattle.fux_pitch.specs.declared.pitch.Pitch.{Pitch}
 use Rattle.fux_grid.specs.declared.cell.Cell.{Cell}

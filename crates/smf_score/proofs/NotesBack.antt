@@ -1,5 +1,5 @@
--- The notes of a written file stand in order (`notes_in_order`), and are placed where they stand in the score, each with its
--- pitch as its key is spelled (`all_placed`).
+-- The notes of a written file stand in order (`notes_in_order`), and are placed where they stand in
+-- the score, each with its pitch as its key is spelled (`all_placed`).
 use Rattle.std.proofs.Common.{◌≡◌, ◌≢◌, ℕ, zero, suc, ◌+◌, ◌*◌, ◌<◌, ◌≤◌, true, List, [], ◌∷◌, ◌++◌, get_or, map, Option, Some, None, Ok, refl, sym, ◌∙◌, ap, arith, max, ne_eqb, add-one, length, subst}
 use Rattle.std.specs.Prelude.{IsSome, ⊤}
 use Rattle.std.specs.List.{range_with_len}

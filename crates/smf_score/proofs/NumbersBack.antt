@@ -1,5 +1,5 @@
--- The numbers, chunks and the header of a written file stand where the grammar wants them (`quantity_stands`,
--- `track_stands`, `header_stands`).
+-- The numbers, chunks and the header of a written file stand where the grammar wants them
+-- (`quantity_stands`, `track_stands`, `header_stands`).
 use Rattle.std.proofs.Common.{◌≡◌, ℕ, ◌+◌, ◌*◌, ◌/◌, ◌%◌, ◌<◌, ◌≤◌, ◌^◌, ◌⊎◌, inl, inr, List, [], ◌∷◌, ◌++◌, length, refl, sym, ◌∙◌, ap, arith, append_assoc, subst}
 use Rattle.std.specs.Int.{w16, w32, to_be_bytes}
 use Rattle.std.proofs.lemmas.Bool.{le-ltb, lt-ltb, cases_lt}

@@ -1,5 +1,5 @@
--- A note overlaps an earlier one just if it starts before the last of them has ended (`overlap_is`); the first voice of
--- notes has those of the first rank (`run_is_voice`).
+-- A note overlaps an earlier one just if it starts before the last of them has ended
+-- (`overlap_is`); the first voice of notes has those of the first rank (`run_is_voice`).
 use Rattle.std.proofs.Common.{◌≡◌, ℕ, suc, ◌+◌, ◌<◌, Bool, true, false, List, [], ◌∷◌, drop, get_or, length, take, refl, sym, ◌∙◌, ap, arith, cond, eqb, ltb, max, add-one}
 use Rattle.std.specs.Prelude.{◌||◌, reverse}
 use Rattle.std.specs.List.{prefix_len}

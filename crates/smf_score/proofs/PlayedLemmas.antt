@@ -1,4 +1,5 @@
--- One stroke before those that were taken (`ends_before`, `notes_before`), and the table before the last one (`ends_none`).
+-- One stroke before those that were taken (`ends_before`, `notes_before`), and the table before the
+-- last one (`ends_none`).
 use Rattle.std.proofs.Common.{◌≡◌, ℕ, lit<, ◌*◌, replicate, suc, ◌+◌, ◌-◌, ◌<◌, ◌≤◌, List, [], ◌∷◌, ◌++◌, length, drop, get_or, reverse, Option, Some, None, refl, sym, ◌∙◌, ap, arith}
 use Rattle.std.specs.Option.{option_to_list}
 use Rattle.std.proofs.lemmas.List.{reverse-append, get_or-replicate, length-replicate}

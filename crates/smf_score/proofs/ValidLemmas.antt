@@ -1,5 +1,5 @@
--- What is read (`exercise_is`) is a valid exercise (`with_valid`): the cells of its voices follow one another (`lines_follow`), and
--- each free voice has a range line (`one_range`).
+-- What is read (`exercise_is`) is a valid exercise (`with_valid`): the cells of its voices follow
+-- one another (`lines_follow`), and each free voice has a range line (`one_range`).
 use Rattle.std.proofs.Common.{◌≡◌, ◌≢◌, ℕ, zero, suc, ◌+◌, ◌-◌, ◌*◌, ◌<◌, ◌≤◌, ◌⊎◌, inl, inr, Bool, true, false, List, [], ◌∷◌, ◌++◌, length, get_or, drop, replicate, Option, Some, None, Ok, refl, sym, ◌∙◌, ap, subst, arith, cond, eqb, ne_eqb, pos, ◌≤ℤ◌, unsigned_abs, lit≤, append_assoc, add-one}
 use Rattle.std.specs.Prelude.{All, IsSome, IsTrue, filter}
 use Rattle.std.specs.List.{AllByRecursion}

@@ -32,6 +32,7 @@ abbrev pub bars_from : ℕ → ℕ → List Cell → List (ℕ × List Cell)
 bars_from bar zero cells = []
 bars_from bar (suc more) cells = (bar, take 8 cells) ∷ bars_from (suc bar) more (drop 8 cells)
 
--- the cantus of so many bars, of which these are the cells, or the first bar that isn't one whole note
+-- the cantus of so many bars, of which these are the cells, or the first bar that isn't one whole
+-- note
 abbrev pub cantus_in : ℕ → List Cell → Result (List Pitch) SmfFault
 cantus_in bars cells = each bar_pitch (bars_from 0 bars cells)

@@ -1,4 +1,5 @@
 -- The exercise of placed notes, or the fault that they have together.
+use Rattle.smf_score.specs.Faults.{◌>>=◌}
 use Rattle.std.specs.Prelude.{ℕ, ◌+◌, ◌*◌, ◌/◌, ◌&&◌, List, [], ◌∷◌, Some, None, Result, Ok, Err, length, max, min, nat_le, nat_lt, slice_index_or, if◌then◌else◌}
 use Rattle.fux_pitch.specs.declared.pitch.Pitch.{Pitch}
 use Rattle.fux_grid.specs.declared.exercise.Exercise.{Exercise}
@@ -6,7 +7,6 @@ use Rattle.fux_grid.specs.declared.exercise.Head.{Head}
 use Rattle.smf_score.specs.declared.fault.SmfFault.{SmfFault}
 use Rattle.smf_score.specs.declared.fault.SmfFault.TheVariants.{Bars, VoiceCount}
 use Rattle.smf_score.specs.declared.placed.Placed.{Placed}
-use Rattle.smf_score.specs.Faults.{◌>>=◌}
 use Rattle.smf_score.specs.Cantus.{cantus_in}
 use Rattle.smf_score.specs.Ranges.{ranges_in}
 use Rattle.smf_score.specs.Sounding.{lines_of}

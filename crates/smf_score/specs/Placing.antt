@@ -9,7 +9,8 @@ use Rattle.smf_score.specs.declared.placed.Placed.{Placed}
 use Rattle.smf_score.specs.declared.played.Played.{Played}
 use Rattle.smf_score.specs.Faults.{each}
 
--- a note joins the first voice of those behind it if that has its rank, or else is a voice of its own
+-- a note joins the first voice of those behind it if that has its rank, or else is a voice of its
+-- own
 abbrev pub joined : Played → List (List Played) → List (List Played)
 joined note [] = (note ∷ []) ∷ []
 joined note ([] ∷ voices) = (note ∷ []) ∷ voices

@@ -7,7 +7,8 @@ use Rattle.smf_score.specs.declared.strokes.Stroke.{Stroke}
 use Rattle.smf_score.specs.declared.played.Layout.{Layout}
 use Rattle.smf_score.specs.declared.played.Played.{Played}
 
--- a stroke ends the note of a channel and key; the events of a file stand track by track, and each track ends all its notes
+-- a stroke ends the note of a channel and key; the events of a file stand track by track, and each
+-- track ends all its notes
 abbrev pub ends_note : ℕ → ℕ → Act → Bool
 ends_note channel key (Strike c k) = (c == channel) && (k == key)
 ends_note channel key (Release c k) = (c == channel) && (k == key)
@@ -29,7 +30,8 @@ abbrev pub played : ℕ → ℕ → ℕ → ℕ → ℕ → Played
 played rank track start end key =
     record { rank = rank; track = track; start = start; end = end; key = key }
 
--- the note that a stroke begins: in format 0 a channel is a voice, and faults name track 0; else a track is one
+-- the note that a stroke begins: in format 0 a channel is a voice, and faults name track 0; else a
+-- track is one
 abbrev pub begun_by : Layout → ℕ → ℕ → Act → List Stroke → Option Played
 begun_by layout track tick (Strike channel key) later =
     Some (if layout.format == 0 then played (rank_of layout channel) 0 tick (end_of channel key later) key

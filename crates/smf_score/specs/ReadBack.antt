@@ -33,8 +33,8 @@ respelled_score score = record { voices = score.voices; columns = map (map respe
 abbrev pub HasNote : List (List Cell) → ℕ → Type 0
 HasNote s v = (i : ℕ) × (i < length s) × (is_start (cell_at s v i) ≡ true)
 
--- a score of a valid exercise, with the cells of the cantus and a note in each voice; each score keeps that its
--- columns are full and follow one another
+-- a score of a valid exercise, with the cells of the cantus and a note in each voice; each score
+-- keeps that its columns are full and follow one another
 pub record IsSounding (ex : Exercise) (score : Grid) : Type 0 where
   pub valid : IsValid ex
   pub given : IsGiven ex score
@@ -42,14 +42,15 @@ pub record IsSounding (ex : Exercise) (score : Grid) : Type 0 where
   pub follows : HistoryFollows (reverse score.columns)
   pub notes : (v : ℕ) → v < ex.voices → HasNote score.columns v
 
--- a head names the cantus voice of an exercise and one of its voices, and says that the lowest voice comes first
+-- a head names the cantus voice of an exercise and one of its voices, and says that the lowest
+-- voice comes first
 pub record IsHeadOf (ex : Exercise) (head : Head) : Type 0 where
   pub species_voice : head.species_voice < ex.voices
   pub cantus_voice : head.cantus_voice ≡ ex.cantus_voice
   pub lowest_first : head.top_first ≡ false
 
--- an exercise that was read is the one that was written, with what the head says in place of what a file of notes
--- doesn't tell, and with its score as the setting, each pitch spelled by its key
+-- an exercise that was read is the one that was written, with what the head says in place of what a
+-- file of notes doesn't tell, and with its score as the setting, each pitch spelled by its key
 pub record IsReadBack (ex : Exercise) (score : Grid) (head : Head) (read : Exercise) : Type 0 where
   pub mode : read.mode ≡ head.mode
   pub voices : read.voices ≡ ex.voices

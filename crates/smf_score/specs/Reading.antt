@@ -1,4 +1,5 @@
 -- What the bytes of a file are as an exercise, or its first fault.
+use Rattle.smf_score.specs.Faults.{◌>>=◌}
 use Rattle.std.specs.Prelude.{◌≡◌, ℕ, ⊤, List, Result, Ok, Err}
 use Rattle.fux_grid.specs.declared.exercise.Exercise.{Exercise}
 use Rattle.fux_grid.specs.declared.exercise.Head.{Head}
@@ -10,7 +11,6 @@ use Rattle.smf_score.specs.declared.fault.SmfFault.TheVariants as faults
 use Rattle.smf_score.specs.declared.played.Played.{Played}
 use Rattle.smf_score.specs.declared.strokes.Stroke.{Stroke}
 use Rattle.smf_score.specs.Exercise.{exercise_in}
-use Rattle.smf_score.specs.Faults.{◌>>=◌}
 use Rattle.smf_score.specs.Order.{IsInOrder}
 use Rattle.smf_score.specs.Placing.{voices_of, voices_placed}
 use Rattle.smf_score.specs.Played.{notes_in}

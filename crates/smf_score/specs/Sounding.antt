@@ -5,7 +5,8 @@ use Rattle.fux_grid.specs.declared.cell.Cell.TheVariants.{Rest}
 use Rattle.smf_score.specs.declared.placed.Placed.{Placed}
 use Rattle.voice_lines.specs.Lines.{note_cells}
 
--- the cells of a voice from one slot to another: it rests up to its first note, which sounds to its end, and so on
+-- the cells of a voice from one slot to another: it rests up to its first note, which sounds to its
+-- end, and so on
 abbrev pub cells_of : ℕ → ℕ → List Placed → List Cell
 cells_of at over [] = replicate (over - at) Rest
 cells_of at over (note ∷ notes) =

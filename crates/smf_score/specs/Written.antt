@@ -14,7 +14,8 @@ use Rattle.smf_score.specs.Lines.{notes_of}
 abbrev pub midi_key : Pitch → ℕ
 midi_key p = unsigned_abs (key_of p)
 
--- a quantity below 2 ^ 21 with the fewest bytes, seven bits in each, the top bit set in all but the last
+-- a quantity below 2 ^ 21 with the fewest bytes, seven bits in each, the top bit set in all but the
+-- last
 abbrev pub quantity : ℕ → List ℕ
 quantity n =
     if nat_lt n 128 then n % 128 ∷ []

@@ -9,8 +9,8 @@ use smf_bytes::ByteFault;
 use std::alloc::{AllocError, AllocFailed};
 use std::fmt;
 
-/// The first fault of a file that is read as an exercise. A note is named by its track, counted from 0, and the
-/// tick at which it starts.
+/// The first fault of a file that is read as an exercise. A note is named by its track, counted
+/// from 0, and the tick at which it starts.
 #[derive(Clone, Copy, Debug, PartialEq, Eq)]
 pub enum SmfFault {
     /// The bytes are no file of this kind.

@@ -7,7 +7,8 @@ ghost use Rattle.smf_score.specs.Order.{IsInOrder};
 use crate::played::Played;
 use std::alloc::AllocError;
 
-/// Puts notes in order: voice by voice, in a voice by the ticks at which they start, and at one tick as they are struck.
+/// Puts notes in order: voice by voice, in a voice by the ticks at which they start, and at one
+/// tick as they are struck.
 pub(crate) fn put_in_order(notes: &mut Vec<Played>) -> Result<(), AllocError>
     requires { All IsPlayed notes.old.items }
     ensures order { OnOk result (IsInOrder notes.old.items notes.new.items) }

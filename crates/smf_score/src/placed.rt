@@ -13,8 +13,8 @@ use crate::played::Played;
 use fux_pitch::{List, Pitch, spell};
 use std::alloc::Global;
 
-/// A note on the grid: the slot at which it starts and the one at which it has ended, both counted from the beginning,
-/// and its pitch.
+/// A note on the grid: the slot at which it starts and the one at which it has ended, both counted
+/// from the beginning, and its pitch.
 #[derive(Clone, Copy)]
 pub(crate) struct Placed {
     pub(crate) start: u64,
@@ -36,8 +36,8 @@ fn slot(division: u16, tick: u64) -> u64
 fn place(division: u16, ended: u64, note: &Played) -> Result<Placed, SmfFault>
     requires division { 0 < division }
     requires note { IsPlayed note.now }
-    ensures value { result ≡ place_spelled division (nat_lt (slot_of division note.now.start) ended) note.now
-        (spelled note.now.key) }
+    ensures value { result ≡ place_spelled division (nat_lt (slot_of division note.now.start) ended)
+        note.now (spelled note.now.key) }
     ensures end { IfOk result (λ placed. placed.end ≡ slot_of division note.now.end) }
 {
     let track = note.track;

@@ -19,8 +19,8 @@ pub(crate) struct Layout {
     pub(crate) top_first: bool,
 }
 
-/// A note of a file: the rank of its voice, the track that a fault names, the ticks at which it starts and ends, and
-/// its key.
+/// A note of a file: the rank of its voice, the track that a fault names, the ticks at which it
+/// starts and ends, and its key.
 #[derive(Clone, Copy)]
 pub(crate) struct Played {
     pub(crate) rank: u16,
@@ -45,7 +45,8 @@ fn note_of_stroke(layout: Layout, stroke: &Stroke, ends: &[u64]) -> Option<Playe
     requires stroke { IsStroke stroke.now }
     requires size { length ends.now ≡ 2048 }
     requires early { AreEarly ends.now }
-    ensures value { (later : List AStroke) → AreEnds later ends.now → result ≡ note_of layout stroke.now later }
+    ensures value { (later : List AStroke) → AreEnds later ends.now → result
+        ≡ note_of layout stroke.now later }
     ensures bounds { IfSome result IsPlayed }
 {
     let Act::Strike { channel, key } = stroke.act else {
@@ -74,7 +75,8 @@ fn enter(ends: &mut [u64], stroke: &Stroke)
     requires stroke { IsStroke stroke.now }
     requires size { length ends.old ≡ 2048 }
     ensures early { AreEarly ends.old → AreEarly ends.new }
-    ensures ends { (later : List AStroke) → AreEnds later ends.old → AreEnds (stroke.now ∷ later) ends.new }
+    ensures ends { (later : List AStroke) → AreEnds later ends.old → AreEnds (stroke.now ∷ later)
+        ends.new }
 {
     match stroke.act {
         Act::Strike { channel, key } => ends[place(channel, key)] = stroke.tick,

@@ -58,7 +58,8 @@ fn push_range(
     voice: u8,
     notes: &[Placed],
 ) -> Result<(), AllocError>
-    ensures ok { OnOk result (lines.new.items ≡ lines.old.items ++ free_range cantus_voice voice notes.now) }
+    ensures ok { OnOk result (lines.new.items ≡ lines.old.items ++ free_range cantus_voice voice
+        notes.now) }
 {
     if voice == cantus_voice {
         return Ok(());

@@ -61,8 +61,8 @@ fn read_events(
     read_notes(alloc, head, division, &notes)
 }
 
-/// The exercise of a MIDI file, with its notes as the setting, or the first fault of the file. `top_first` of the head
-/// says that the first track, or channel, is the highest voice.
+/// The exercise of a MIDI file, with its notes as the setting, or the first fault of the file.
+/// `top_first` of the head says that the first track, or channel, is the highest voice.
 pub fn from_smf(alloc: Global, bytes: &[u8], head: &Head) -> Result<Exercise<'static>, SmfFault>
     requires { IsHead head.now }
     ensures value { ReadsAs result (IsReading head.now bytes.now) }

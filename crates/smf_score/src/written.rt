@@ -96,8 +96,8 @@ fn holds_ahead(cells: &[Cell]) -> usize
     holds
 }
 
-/// Appends the note that starts in a cell, if one does, before these later ones. The cell stands at a column, and the note
-/// before ends at column `ended`; the answer is where the last one ends now.
+/// Appends the note that starts in a cell, if one does, before these later ones. The cell stands at
+/// a column, and the note before ends at column `ended`; the answer is where the last one ends now.
 fn push_cell(
     out: &mut Vec<u8>,
     v: u8,
@@ -109,8 +109,9 @@ fn push_cell(
     requires voice { v < 16 }
     requires few { at + length later.now < 192 }
     requires ended { ended ≤ at + holds_ahead (cell ∷ later.now) }
-    ensures bytes { IfOk result (λ after. out.new.items ++ notes_bytes v after (notes_of (at + 1) later.now)
-        ≡ out.old.items ++ notes_bytes v ended (notes_of at (cell ∷ later.now))) }
+    ensures bytes { IfOk result (λ after. out.new.items ++ notes_bytes v after
+        (notes_of (at + 1) later.now) ≡ out.old.items ++ notes_bytes v ended
+        (notes_of at (cell ∷ later.now))) }
     ensures ended { IfOk result (λ after. after ≤ at + 1 + holds_ahead later.now) }
     ensures short { OnOk result (length out.new.items ≤ length out.old.items + 12) }
 {
@@ -128,7 +129,8 @@ fn push_cell(
 fn voice_bytes(alloc: Global, cells: &[Cell], v: u8) -> Result<Vec<u8>, Memory>
     requires voice { v < 16 }
     requires few { length cells.now ≤ 192 }
-    ensures bytes { IfOk result (λ out. out.items ≡ notes_bytes v 0 (notes_of 0 cells.now) ++ end_bytes) }
+    ensures bytes { IfOk result (λ out. out.items ≡ notes_bytes v 0 (notes_of 0 cells.now)
+        ++ end_bytes) }
     ensures short { IfOk result (λ out. length out.items < 2 ^ 32) }
 {
     let mut out = Vec::new(alloc);
@@ -160,7 +162,8 @@ fn push_head(out: &mut Vec<u8>, tracks: u8) -> Result<(), Memory>
     Ok(())
 }
 
-/// The MIDI file of a complete score: format 1, a track of its tempo, and one for each voice from the lowest.
+/// The MIDI file of a complete score: format 1, a track of its tempo, and one for each voice from
+/// the lowest.
 pub fn to_smf(alloc: Global, ex: &Exercise, score: &Score) -> Result<Vec<u8>, Memory>
     requires { IsComplete ex.now score.now }
     ensures { IfOk result (λ bytes. bytes.items ≡ smf_of score.now) }

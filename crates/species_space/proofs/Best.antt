@@ -1,4 +1,5 @@
--- Leaves are the lawful settings, with their penalties (`leaf_is_lawful`, `lawful_is_leaf`), in reading order (`before_is_earlier`).
+-- Leaves are the lawful settings, with their penalties (`leaf_is_lawful`, `lawful_is_leaf`), in
+-- reading order (`before_is_earlier`).
 use Rattle.std.specs.Prelude.{◌≡◌, ℕ, suc, ◌<◌, Bool, true, nat_lt, List, [], ◌∷◌, Some, length, slice_index_or}
 use Rattle.std.proofs.Common.{ap, sym, ◌∙◌, arith, inl, inr}
 use Rattle.fux_grid.specs.declared.cell.Cell.{Cell}

@@ -228,7 +228,8 @@ floor_there false ex sheet path k rest alive room is =
     omega (arith, is) in
     ap Some none
 
--- a node that is made of its parent's, with what its column costs, stands for an alive child, and its floor is the sum with the rest
+-- a node that is made of its parent's, with what its column costs, stands for an alive child, and
+-- its floor is the sum with the rest
 pub made_of : (ex : Exercise) (sheet : Sheet) (path : List ℕ) (k : ℕ) (node made : Node) (col : List Cell)
     (more rest : ℕ) → IsNodeOf ex sheet node path → col ≡ column_at ex path k → length path < columns_in ex
     → is_alive_path ex (path ++ k ∷ []) ≡ true → (chained : Bool)

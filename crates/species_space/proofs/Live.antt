@@ -1,4 +1,5 @@
--- Live paths lead to the live prefixes (`live_prefix`), and each of these is at the end of one (`path_to_live`).
+-- Live paths lead to the live prefixes (`live_prefix`), and each of these is at the end of one
+-- (`path_to_live`).
 use Rattle.std.specs.Prelude.{◌≡◌, ℕ, Bool, List, Option, Some, None, IsSome, true, false, refl}
 use Rattle.std.proofs.Common.{ap, sym, ◌∙◌, subst}
 use Rattle.fux_grid.specs.declared.cell.Cell.{Cell}

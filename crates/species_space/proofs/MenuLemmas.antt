@@ -1,4 +1,5 @@
--- What is kept of menus stays so behind others (`place_kept`), and a menu that is kept once is that of both places (`menu_again`).
+-- What is kept of menus stays so behind others (`place_kept`), and a menu that is kept once is that
+-- of both places (`menu_again`).
 use Rattle.std.proofs.Common.{◌≡◌, ℕ, ◌-◌, ◌<◌, List, [], ◌∷◌, ◌++◌, length, slice_index_or, ap, sym, ◌∙◌, subst, arith}
 use Rattle.std.proofs.Math.ListN.{get_or-append}
 use Rattle.std.proofs.Math.Seq.{get_or-append_seam}

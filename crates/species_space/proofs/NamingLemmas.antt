@@ -1,4 +1,5 @@
--- Where voices are named that may be, each free voice has one of the five species, and the cantus the first (`are_species`).
+-- Where voices are named that may be, each free voice has one of the five species, and the cantus
+-- the first (`are_species`).
 use Rattle.std.proofs.Common.{◌≡◌, inl, ℕ, zero, suc, ◌<◌, ◌≤◌, List, Option, Some, None, length, slice_index_or, refl, sym, ◌∙◌, subst, arith}
 use Rattle.std.specs.Prelude.{IfSome, IsSome, unwrap_or}
 use Rattle.std.proofs.lemmas.List.{get_or_past}

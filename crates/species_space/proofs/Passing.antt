@@ -194,7 +194,8 @@ agree_more menu v size k old block end kept ends fewer in_block onward within be
 
 -- ---- columns that are dead after every prefix
 
--- what holds of the numbers of a list, and of one number at each later place, holds of all once that number is put behind them
+-- what holds of the numbers of a list, and of one number at each later place, holds of all once
+-- that number is put behind them
 filled : (P : ℕ → ℕ → Type 0) (numbers : List ℕ) (count number : ℕ)
     → ((k : ℕ) → k < length numbers → P k (slice_index_or numbers k 0)) → ((k : ℕ) → length numbers ≤ k → P k number)
     → (k : ℕ) → k < length (numbers ++ replicate count number)

@@ -1,4 +1,5 @@
--- The tree is that of the settings (`tree_of_settings`), so that what is found at its leaves is told of settings.
+-- The tree is that of the settings (`tree_of_settings`), so that what is found at its leaves is
+-- told of settings.
 use Rattle.std.specs.Prelude.{◌≡◌, ℕ, Bool, true, List, refl}
 use Rattle.fux_grid.specs.declared.exercise.Exercise.{Exercise}
 use Rattle.fux_grid.specs.Exercises.{IsValid, columns_in}

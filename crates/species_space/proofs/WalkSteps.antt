@@ -1,5 +1,5 @@
--- What a walk over a menu passes over after a node's path is no better than the best leaf so far: a column that strays or dies
--- (`stray_no_better`), and one that is pruned (`pruned_no_better`).
+-- What a walk over a menu passes over after a node's path is no better than the best leaf so far: a
+-- column that strays or dies (`stray_no_better`), and one that is pruned (`pruned_no_better`).
 use Rattle.std.specs.Prelude.{IsSomeAnd}
 use Rattle.std.proofs.Common.{◌≡◌, inl, inr, ◌+◌, ◌≤◌, Option, ℕ, Bool, List, [], reverse, slice_index_or, ap, sym, ◌∙◌, subst, true, arith}
 use Rattle.std.specs.List.{list_any}

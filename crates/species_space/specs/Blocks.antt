@@ -24,7 +24,8 @@ same_cell (Start p) Rest = false
 same_cell (Start p) (Hold q) = false
 same_cell (Start p) (Start q) = same_pitch p q
 
--- in each column a voice has the cell that it has in the first column of the column's block; blocks have this length
+-- in each column a voice has the cell that it has in the first column of the column's block; blocks
+-- have this length
 abbrev pub KeepsCell : List (List Cell) → ℕ → ℕ → Type 0
 KeepsCell menu v size = (k : ℕ) → k < length menu → cell_in (slice_index_or menu k []) v
     ≡ cell_in (slice_index_or menu (k / size * size) []) v
@@ -70,7 +71,8 @@ IsHeldNext menu before k =
     (k < length (columns_seen menu)) × IsTrue menu.blocks.now.only_holds
     × ColumnFollows before (slice_index_or (columns_seen menu) k [])
 
--- the first column of a menu, from a number on, that may follow; the menu's length where there is none
+-- the first column of a menu, from a number on, that may follow; the menu's length where there is
+-- none
 pub record IsNext (menu : List (List Cell)) (before : List Cell) (from next : ℕ) : Type 0 where
   pub onward : from ≤ next
   pub within : next ≤ length menu
@@ -105,7 +107,8 @@ pub record SkipDead (ex : Exercise) (i : ℕ) (menu : List (List Cell)) (numbers
 abbrev pub StraysOrDies : Exercise → ℕ → List Cell → List Cell → Type 0
 StraysOrDies ex i before col = ColumnFollows before col → IsAlwaysDead ex i col
 
--- each column of a menu from one number up to another doesn't follow, or is dead, wherever the menu's numbers skip dead columns
+-- each column of a menu from one number up to another doesn't follow, or is dead, wherever the
+-- menu's numbers skip dead columns
 abbrev pub PassesDead : MenuView → List Cell → ℕ → ℕ → Type 0
 PassesDead menu before from to =
     (ex : Exercise) (i : ℕ) → SkipDead ex i (columns_seen menu) menu.undead.now

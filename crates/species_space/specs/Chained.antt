@@ -9,7 +9,8 @@ use Rattle.floor_tables.specs.Floors.{IsLive, floor_of}
 use Rattle.floor_tables.specs.Tables.{IsRest}
 use Rattle.penalty_sheet.specs.declared.sheet.Sheet.{Sheet}
 
--- the floor of a prefix: what is settled in it, what its lines cost at least, and with chains the least sum of those that go on from it
+-- the floor of a prefix: what is settled in it, what its lines cost at least, and with chains the
+-- least sum of those that go on from it
 abbrev pub floor_with : Bool → Exercise → Sheet → List (List Cell) → Option ℕ
 floor_with true ex sheet p = floor_of ex sheet p
 floor_with false ex sheet p = Some (paid ex sheet p + least_of ex sheet p)
@@ -19,7 +20,8 @@ abbrev pub IsLiveWith : Bool → Exercise → Sheet → List (List Cell) → Typ
 IsLiveWith true ex sheet p = IsLive ex sheet p
 IsLiveWith false ex sheet p = IsAlive ex p
 
--- the least that is still to be paid behind a column of place i: with chains the least sum of those that go on, and without them nothing
+-- the least that is still to be paid behind a column of place i: with chains the least sum of those
+-- that go on, and without them nothing
 abbrev pub IsRestWith : Bool → Exercise → Sheet → ℕ → List Cell → ℕ → Type 0
 IsRestWith true ex sheet i col rest = IsRest ex sheet i col (Some rest)
 IsRestWith false ex sheet i col rest = rest ≡ 0

@@ -1,5 +1,6 @@
--- What a floor is made of (`floor_parts`). A prefix that is longer by a column has no lower one (`floor_grows`), and that of a setting
--- without a strict break is its penalty (`floor_at_end`); so it is without chains (`floor_with_grows`, `floor_with_at_end`).
+-- What a floor is made of (`floor_parts`). A prefix that is longer by a column has no lower one
+-- (`floor_grows`), and that of a setting without a strict break is its penalty (`floor_at_end`); so
+-- it is without chains (`floor_with_grows`, `floor_with_at_end`).
 use Rattle.std.specs.Prelude.{◌≡◌, Bool, true, false, ℕ, ◌+◌, ◌<◌, ◌≤◌, List, [], ◌∷◌, ◌++◌, Option, Some, None, IsSome, IsSomeAnd, option_map, refl}
 use Rattle.std.proofs.Common.{ap, sym, ◌∙◌, subst, arith}
 use Rattle.fux_grid.specs.declared.cell.Cell.{Cell}

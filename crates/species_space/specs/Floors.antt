@@ -7,8 +7,9 @@ use Rattle.fux_judge.specs.Lawful.{IsLawful}
 use Rattle.fux_judge.specs.Penalties.{penalty_of}
 use Rattle.floor_tables.specs.Floors.{IsLive, floor_of}
 
--- each prefix that begins a lawful setting is live, and its floor is at most that setting's penalty; a live prefix that is one
--- column longer has no lower floor; and the floor of a lawful setting is its penalty
+-- each prefix that begins a lawful setting is live, and its floor is at most that setting's
+-- penalty; a live prefix that is one column longer has no lower floor; and the floor of a lawful
+-- setting is its penalty
 pub record HasFloors (ex : Exercise) (sheet : Sheet) : Type 0 where
   pub live : (p more : List (List Cell)) → IsLawful ex (p ++ more) → IsLive ex sheet p
   pub low : (p more : List (List Cell)) → IsLawful ex (p ++ more)

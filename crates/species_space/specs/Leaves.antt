@@ -1,5 +1,5 @@
--- Alive paths lead to the prefixes in which no strict break is settled (`prefix_is_alive`), and each of these is at the end of one
--- (`path_to_alive`).
+-- Alive paths lead to the prefixes in which no strict break is settled (`prefix_is_alive`), and
+-- each of these is at the end of one (`path_to_alive`).
 use Rattle.std.specs.Prelude.{◌≡◌, ℕ, zero, suc, ◌+◌, ◌<◌, ◌≤◌, Bool, true, false, not, nat_lt, nat_le, List, [], ◌∷◌, IsTrue, Contains, length, reverse, slice_index_or, refl}
 use Rattle.std.specs.List.{AllPairs}
 use Rattle.std.proofs.Common.{ap, sym, ◌∙◌, subst, arith}

@@ -8,6 +8,7 @@ pub record IsMixed (m : Mixed) : Type 0 where
   pub valid : IsValid m.ex.now
   pub species : AreSpecies m.ex.now m.species
 
--- the exercise whose voices have these species: its menus, rules and tolls are those of the mixed one
+-- the exercise whose voices have these species: its menus, rules and tolls are those of the mixed
+-- one
 abbrev pub exercise_of : Mixed → Exercise
 exercise_of m = as_mixed m.ex.now m.species

@@ -1,5 +1,6 @@
--- What a search for the best setting of a mixed exercise tells within a budget, which is spent exactly where it must be. Loads are counted
--- over the prefixes in which no strict break is settled.
+-- What a search for the best setting of a mixed exercise tells within a budget, which is spent
+-- exactly where it must be. Loads are counted over the prefixes in which no strict break is
+-- settled.
 use Rattle.std.specs.Prelude.{ℕ, false, List}
 use Rattle.fux_grid.specs.declared.cell.Cell.{Cell}
 use Rattle.fux_grid.specs.declared.exercise.Exercise.{Exercise}

@@ -8,7 +8,8 @@ use Rattle.fux_judge.specs.States.{IsStateOf}
 use Rattle.species_space.specs.declared.node.Node.{Node}
 use Rattle.species_space.specs.Paths.{ArePassed, IsNoBetter, prefix_at, is_alive_path}
 
--- the node is of an alive path: its state is of the prefix, and it knows what is paid of it and what its lines cost at least
+-- the node is of an alive path: its state is of the prefix, and it knows what is paid of it and
+-- what its lines cost at least
 pub record IsNodeOf (ex : Exercise) (sheet : Sheet) (node : Node) (path : List ℕ) : Type 0 where
   pub state : IsStateOf ex (prefix_at ex path) node.state
   pub alive : is_alive_path ex path ≡ true

@@ -47,13 +47,15 @@ history_follows (col ∷ cols) = column_follows (newest_column cols) col && hist
 abbrev pub has_voices : Exercise → Bool
 has_voices ex = nat_le ex.voices 4 && nat_lt ex.cantus_voice ex.voices
 
--- the path leads to a prefix in which no strict break is settled; there is none where the exercise's voices aren't such
+-- the path leads to a prefix in which no strict break is settled; there is none where the
+-- exercise's voices aren't such
 abbrev pub is_alive_path : Exercise → List ℕ → Bool
 is_alive_path ex path =
     has_voices ex && nat_le (length path) (columns_in ex) && is_in_menus ex 0 path
     && history_follows (reverse (prefix_at ex path)) && not (has_strict_break ex (prefix_at ex path))
 
--- the floor of the prefix that a path leads to, where it is live: no strict break is settled in it, and with chains one goes on from it
+-- the floor of the prefix that a path leads to, where it is live: no strict break is settled in it,
+-- and with chains one goes on from it
 unfoldable pub live_with : Bool → Exercise → Sheet → List ℕ → Option ℕ
 live_with chained ex sheet path =
     if is_alive_path ex path then floor_with chained ex sheet (prefix_at ex path) else None
@@ -70,7 +72,8 @@ width_at ex path = length (menu_of ex (length path))
 abbrev pub column_at : Exercise → List ℕ → ℕ → List Cell
 column_at ex path k = slice_index_or (menu_of ex (length path)) k []
 
--- the child of this number is dead, or no better than the best leaf so far: its floor is no lower than that leaf's value
+-- the child of this number is dead, or no better than the best leaf so far: its floor is no lower
+-- than that leaf's value
 abbrev pub IsNoBetter : Bool → Exercise → Sheet → List ℕ → Option ℕ → ℕ → Type 0
 IsNoBetter chained ex sheet path best k =
     (floor : ℕ) → live_with chained ex sheet (path ++ k ∷ []) ≡ Some floor → IsSomeAnd best (λ value. value ≤ floor)
@@ -80,8 +83,8 @@ abbrev pub ArePassed : Bool → Exercise → Sheet → List ℕ → Option ℕ �
 ArePassed chained ex sheet path best from to =
     (k : ℕ) → from ≤ k → k < to → IsNoBetter chained ex sheet path best k
 
--- a path that is longer by a number is alive where the path is, it has room, the number is in the menu, and its column follows
--- and settles no strict break
+-- a path that is longer by a number is alive where the path is, it has room, the number is in the
+-- menu, and its column follows and settles no strict break
 abbrev pub goes_on : Exercise → List ℕ → ℕ → Bool
 goes_on ex path k =
     nat_lt (length path) (columns_in ex) && nat_lt k (width_at ex path)

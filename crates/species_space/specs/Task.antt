@@ -9,7 +9,8 @@ use Rattle.species_space.specs.Blocks.{AreBlocksOf, IsCut, SkipDead, columns_see
 use Rattle.species_space.specs.declared.blocks.BlockMenu.{BlockMenu}
 use Rattle.species_space.specs.declared.blocks.MenuView.{MenuView}
 
--- what is known of the menu of a place: its blocks, and of its columns how many are dead after every prefix from them on
+-- what is known of the menu of a place: its blocks, and of its columns how many are dead after
+-- every prefix from them on
 pub record IsBlockMenuOf (ex : Exercise) (i : ℕ) (menu : BlockMenu) : Type 0 where
   pub blocks : AreBlocksOf (menu_of ex i) menu.blocks
   pub skip : SkipDead ex i (menu_of ex i) menu.undead.items

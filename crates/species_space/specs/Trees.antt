@@ -9,8 +9,8 @@ use Rattle.species_space.specs.Chained.{IsLiveWith, floor_with}
 use Rattle.penalty_sheet.specs.declared.sheet.Sheet.{Sheet}
 use Rattle.tree_search.specs.Quests.{Quest}
 
--- with chains or without, a live prefix costs at least its floor; of settings that cost as much the one that is earlier in reading order
--- comes first
+-- with chains or without, a live prefix costs at least its floor; of settings that cost as much the
+-- one that is earlier in reading order comes first
 abbrev pub settings_with : Bool → Exercise → Sheet → Quest (List Cell)
 settings_with chained ex sheet = record {
   IsLive = IsLiveWith chained ex sheet;
@@ -24,6 +24,7 @@ settings_with chained ex sheet = record {
 abbrev pub settings : Exercise → Sheet → Quest (List Cell)
 settings = settings_with true
 
--- without chains it is live where no strict break is settled in it, and what is to come costs nothing: so a mixed exercise is searched
+-- without chains it is live where no strict break is settled in it, and what is to come costs
+-- nothing: so a mixed exercise is searched
 abbrev pub mixed_settings : Exercise → Sheet → Quest (List Cell)
 mixed_settings = settings_with false

@@ -1,4 +1,5 @@
-//! Menus in blocks, over which voices keep their cells, so that a search passes over many columns at once.
+//! Menus in blocks, over which voices keep their cells, so that a search passes over many columns
+//! at once.
 
 ghost use Rattle.std.specs.Prelude.{◌≡◌, ◌<◌, ◌≤◌, ◌↔◌, ℕ, [], All, IfNone, IfSome, IsTrue, false, length, slice_index_or};
 ghost use Rattle.fux_grid.specs.Cells.{cell_follows, cell_in};
@@ -9,7 +10,8 @@ ghost use Rattle.species_space.specs.Blocks.{Agree, AreBlocksOf, HasOneWidth, Is
 
 use fux_grid::{Cell, Column, cell_of, cells_follow};
 
-/// How a menu is cut into blocks of equal length, for each voice into blocks of its own, over each of which the voice keeps its cell.
+/// How a menu is cut into blocks of equal length, for each voice into blocks of its own, over each
+/// of which the voice keeps its cell.
 #[derive(Clone, Copy)]
 pub struct Blocks {
     /// How long the blocks of each voice are.
@@ -24,8 +26,8 @@ pub struct Blocks {
 #[derive(Drop)]
 pub(crate) struct BlockMenu {
     pub(crate) blocks: Blocks,
-    /// For each column the number of the first one, from it on, that isn't dead after every prefix. A column that has none here is its
-    /// own.
+    /// For each column the number of the first one, from it on, that isn't dead after every prefix.
+    /// A column that has none here is its own.
     pub(crate) undead: Vec<u16>,
 }
 
@@ -67,8 +69,9 @@ impl<'a> MenuView<'a> {
         self.columns.len()
     }
 
-    /// The first column, from this number on, that may follow; the menu's length where there is none. Where nothing is held all may
-    /// follow. At a column of holds at most one may follow, and the hint is tried first.
+    /// The first column, from this number on, that may follow; the menu's length where there is
+    /// none. Where nothing is held all may follow. At a column of holds at most one may follow, and
+    /// the hint is tried first.
     pub fn next_that_follows(&self, before: &[Cell], from: usize, hint: usize) -> usize
         requires cut { IsCut self.now }
         requires within { from ≤ length (columns_seen self.now) }
@@ -107,7 +110,8 @@ impl<'a> MenuView<'a> {
         column_at(self.columns, k)
     }
 
-    /// How far the columns from this number on are known to have its cells in so many of the lowest voices: the first number behind them.
+    /// How far the columns from this number on are known to have its cells in so many of the lowest
+    /// voices: the first number behind them.
     pub fn end_of_agreement(&self, k: usize, voices: usize) -> usize
         requires cut { IsCut self.now }
         requires within { k < length (columns_seen self.now) }
@@ -147,7 +151,8 @@ impl<'a> MenuView<'a> {
         cells_follow(before, self.column(k).as_slice())
     }
 
-    /// The same as `next_that_follows`, by blocks: where the cell of a voice doesn't follow, it follows nowhere in its block.
+    /// The same as `next_that_follows`, by blocks: where the cell of a voice doesn't follow, it
+    /// follows nowhere in its block.
     fn next_in_blocks(&self, before: &[Cell], from: usize) -> usize
         requires cut { IsCut self.now }
         requires within { from ≤ length (columns_seen self.now) }
@@ -178,7 +183,8 @@ pub(crate) fn column_at(columns: &[Column], k: usize) -> &Column
 fn misfit(before: &[Cell], column: &Column) -> Option<usize>
     ensures fits { IfNone result (ColumnFollows before.now column.now.items) }
     ensures voice { IfSome result (λ v. v < 4) }
-    ensures misses { IfSome result (λ v. cell_follows (cell_in before.now v) (cell_in column.now.items v) ≡ false) }
+    ensures misses { IfSome result (λ v. cell_follows (cell_in before.now v) (cell_in column.now.items v)
+        ≡ false) }
 {
     for v in 0..column.len() {
         if !cell_of(column.as_slice(), v).follows(cell_of(before, v)) {
@@ -249,7 +255,8 @@ fn keeps_cell(columns: &[Column], v: usize, length: usize) -> bool
     true
 }
 
-/// How long the blocks are over which a voice keeps its cell: as long as the first, or one column where not all are so long.
+/// How long the blocks are over which a voice keeps its cell: as long as the first, or one column
+/// where not all are so long.
 fn block_length(columns: &[Column], v: usize) -> u16
     requires { length columns.now ≤ 8192 }
     ensures some { 1 ≤ result }

@@ -33,8 +33,11 @@ pub trait MenuColumns {
 /// The columns that a live path of the space leads to.
 pub fn score_of<S: MenuColumns>(alloc: Global, space: &S, path: &[u16]) -> Result<Score, Memory>
     requires { is_alive_path (S.exercise space.now) path.now ≡ true }
-    ensures { IfOk result (λ score. score
-        ≡ record { voices = (S.exercise space.now).voices; columns = prefix_at (S.exercise space.now) path.now }) }
+    ensures { IfOk result (λ score. score ≡ record {
+      voices = (S.exercise space.now).voices;
+      columns
+          = prefix_at (S.exercise space.now) path.now;
+    }) }
 {
     let mut score = Score::new(alloc, space.voices())?;
     for (i, number) in path.iter().enumerate() {

@@ -1,5 +1,5 @@
-//! Counterpoint as a tree: its live paths are the live prefixes of an exercise, and its leaves the lawful settings. Beside it stands the tree
-//! of an exercise whose free voices have a species each.
+//! Counterpoint as a tree: its live paths are the live prefixes of an exercise, and its leaves the
+//! lawful settings. Beside it stands the tree of an exercise whose free voices have a species each.
 #![tactic(auto)]
 
 mod blocks;

@@ -20,8 +20,8 @@ pub(crate) struct Menu {
     pub(crate) blocks: Blocks,
 }
 
-/// What is known of a place: the number of its menu, and for each column of it the number of the first one, from it on, that isn't dead
-/// after every prefix.
+/// What is known of a place: the number of its menu, and for each column of it the number of the
+/// first one, from it on, that isn't dead after every prefix.
 #[derive(Drop)]
 pub(crate) struct PlaceMenu {
     pub(crate) menu: usize,
@@ -90,7 +90,8 @@ fn menu_at(alloc: Global, ex: &Exercise, i: usize) -> Result<Menu, Memory>
     Ok(Menu { columns, blocks })
 }
 
-/// The number of the menu of a place, which is put behind those of the places before it unless the place before has the same one.
+/// The number of the menu of a place, which is put behind those of the places before it unless the
+/// place before has the same one.
 fn number_at(alloc: Global, ex: &Exercise, menus: &mut Vec<Menu>, i: usize) -> Result<usize, Memory>
     requires valid { IsValid ex.now }
     requires narrow { AreNarrow ex.now }

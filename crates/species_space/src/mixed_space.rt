@@ -24,8 +24,9 @@ use std::alloc::Global;
 use std::marker::Model;
 use tree_search::{QuestSpace, Space};
 
-/// The settings of an exercise whose free voices have a species each as a tree: a child adds the column of its number, counted from 0, in
-/// the menu of the next column. A child is dead where its column doesn't follow, or where a strict break is settled by it.
+/// The settings of an exercise whose free voices have a species each as a tree: a child adds the
+/// column of its number, counted from 0, in the menu of the next column. A child is dead where its
+/// column doesn't follow, or where a strict break is settled by it.
 #[derive(Drop)]
 pub struct MixedSpace<'a> {
     exercise: Exercise<'a>,
@@ -45,14 +46,19 @@ impl<'a> Model for MixedSpace<'a> {
 }
 
 impl<'a> MixedSpace<'a> {
-    /// The space of an exercise with the species of its voices, by a sheet. It takes all its memory here.
+    /// The space of an exercise with the species of its voices, by a sheet. It takes all its memory
+    /// here.
     pub fn new(
         alloc: Global,
         m: &'a Mixed<'a>,
         sheet: &'a Sheet,
     ) -> Result<MixedSpace<'a>, TableFault>
         requires { IsMixed m.now }
-        ensures made { IfOk result (λ space. space ≡ record { exercise = exercise_of m.entry.now; sheet = sheet.entry.now }) }
+        ensures made { IfOk result (λ space. space ≡ record {
+          exercise = exercise_of m.entry.now;
+          sheet
+              = sheet.entry.now;
+        }) }
         ensures narrow { OnOk result (AreNarrow (exercise_of m.entry.now)) }
         ensures wide { IfErr result (TellsWidth (exercise_of m.entry.now)) }
     {
@@ -165,8 +171,9 @@ impl<'a> Space for MixedSpace<'a> {
     }
 }
 
-/// Its live paths are exactly the prefixes of its exercise in which no strict break is settled, with children in reading order, and its
-/// leaves exactly the lawful settings, with their penalties by its sheet as values.
+/// Its live paths are exactly the prefixes of its exercise in which no strict break is settled,
+/// with children in reading order, and its leaves exactly the lawful settings, with their penalties
+/// by its sheet as values.
 impl<'a> QuestSpace for MixedSpace<'a> {
     ghost use Rattle.std.specs.Prelude.{List};
     ghost use Rattle.fux_grid.specs.declared.cell.Cell.{Cell};

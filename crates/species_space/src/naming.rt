@@ -9,7 +9,8 @@ use fux_grid::{Exercise, is_free, species_of};
 /// The species that are named, for each voice that has one.
 pub type Named = [Option<u8>; 4];
 
-/// Whether a voice is named that may not be: it isn't free, or the exercise itself says its species.
+/// Whether a voice is named that may not be: it isn't free, or the exercise itself says its
+/// species.
 fn is_misnamed(ex: &Exercise, named: &Named, v: u8) -> bool
     requires { v < 4 }
     ensures { IsTrue result ↔ IsMisnamed ex.now named.now v }
@@ -42,8 +43,9 @@ fn species_with(ex: &Exercise, named: &Named, v: u8) -> u8
     }
 }
 
-/// The species of each voice, where these are named and the others keep theirs; or the lowest voice that is named and may not be: it
-/// isn't free, or the exercise itself says its species. It takes no memory.
+/// The species of each voice, where these are named and the others keep theirs; or the lowest voice
+/// that is named and may not be: it isn't free, or the exercise itself says its species. It takes
+/// no memory.
 pub fn named_species(ex: &Exercise, named: &Named) -> Result<[u8; 4], u8>
     requires valid { IsValid ex.now }
     requires named { AreNamed named.now }

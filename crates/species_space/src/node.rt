@@ -3,9 +3,9 @@ ghost use Rattle.std.specs.Prelude.{◌≡◌};
 
 use fux_judge::State;
 
-/// A live prefix: its state, what is paid of it, what its lines cost at least, and the number of its last column in its menu. A column
-/// of holds has the number of the column before where the menus go alike, so that this is where a search looks first; no answer
-/// depends on it.
+/// A live prefix: its state, what is paid of it, what its lines cost at least, and the number of
+/// its last column in its menu. A column of holds has the number of the column before where the
+/// menus go alike, so that this is where a search looks first; no answer depends on it.
 #[derive(Clone, Copy, Debug, PartialEq, Eq)]
 pub struct Node {
     pub(crate) state: State,

@@ -27,8 +27,9 @@ use std::marker::Model;
 use std::thread::Threads;
 use tree_search::{QuestSpace, Space};
 
-/// The settings of an exercise as a tree: a child adds the column of its number, counted from 0, in the menu of the next column. A
-/// child is dead where its column doesn't follow, where a strict break is settled by it, or where no chain goes on from it to the end.
+/// The settings of an exercise as a tree: a child adds the column of its number, counted from 0, in
+/// the menu of the next column. A child is dead where its column doesn't follow, where a strict
+/// break is settled by it, or where no chain goes on from it to the end.
 #[derive(Drop)]
 pub struct SpeciesSpace<'a> {
     pub(crate) exercise: &'a Exercise<'a>,
@@ -59,7 +60,11 @@ impl<'a> SpeciesSpace<'a> {
         sheet: &'a Sheet,
     ) -> Result<SpeciesSpace<'a>, TableFault>
         requires { IsValid exercise.now }
-        ensures made { IfOk result (λ space. space ≡ record { exercise = exercise.entry.now; sheet = sheet.entry.now }) }
+        ensures made { IfOk result (λ space. space ≡ record {
+          exercise = exercise.entry.now;
+          sheet
+              = sheet.entry.now;
+        }) }
         ensures narrow { OnOk result (AreNarrow exercise.entry.now) }
         ensures wide { IfErr result (TellsWidth exercise.entry.now) }
     {
@@ -111,15 +116,16 @@ impl<'a> SpeciesSpace<'a> {
         }
     }
 
-    /// The column of a child with the least sum of the chains that go on from it; none where none does.
+    /// The column of a child with the least sum of the chains that go on from it; none where none
+    /// does.
     #[inline]
     fn choice(&self, node: &Node, k: usize) -> Option<(&Column, u64)>
-        requires { HasChild (IsNodeOf self.now.exercise self.now.sheet node.now) (columns_in self.now.exercise)
-            (width_at self.now.exercise) k }
+        requires { HasChild (IsNodeOf self.now.exercise self.now.sheet node.now)
+            (columns_in self.now.exercise) (width_at self.now.exercise) k }
         ensures column { IfSome result (λ choice. choice.0.now.items
             ≡ slice_index_or (menu_of self.now.exercise node.now.state.newest.len) k []) }
-        ensures rest { IfSome result (λ choice. IsRest self.now.exercise self.now.sheet node.now.state.newest.len
-            choice.0.now.items (Some choice.1)) }
+        ensures rest { IfSome result (λ choice. IsRest self.now.exercise self.now.sheet
+            node.now.state.newest.len choice.0.now.items (Some choice.1)) }
         ensures small { IfSome result (λ choice. choice.1 ≤ 2 ^ 61) }
         ensures none { IfNone result (IsRest self.now.exercise self.now.sheet node.now.state.newest.len
             (slice_index_or (menu_of self.now.exercise node.now.state.newest.len) k []) None) }
@@ -196,8 +202,8 @@ impl<'a> Space for SpeciesSpace<'a> {
     }
 }
 
-/// Its live paths are exactly the live prefixes of its exercise, with children in reading order, and its leaves exactly the lawful
-/// settings, with their penalties by its sheet as values.
+/// Its live paths are exactly the live prefixes of its exercise, with children in reading order,
+/// and its leaves exactly the lawful settings, with their penalties by its sheet as values.
 impl<'a> QuestSpace for SpeciesSpace<'a> {
     ghost use Rattle.std.specs.Prelude.{List};
     ghost use Rattle.fux_grid.specs.declared.cell.Cell.{Cell};
@@ -227,7 +233,8 @@ impl<'a> MenuColumns for SpeciesSpace<'a> {
     }
 }
 
-/// The blocks of a place's menu, which are those of the place before where the menu is kept once for both.
+/// The blocks of a place's menu, which are those of the place before where the menu is kept once
+/// for both.
 fn blocks_at(tables: &Tables<'_>, menus: &[BlockMenu], i: usize) -> Blocks
     requires place { i < columns_in tables.now.exercise }
     requires narrow { AreNarrow tables.now.exercise }
@@ -262,8 +269,9 @@ fn menus_of(
     Ok(menus)
 }
 
-/// The floor of the child of this number and column, where the column follows and settles no strict break: what is to come behind it costs
-/// `rest` at least. The child is written into the place that is given.
+/// The floor of the child of this number and column, where the column follows and settles no strict
+/// break: what is to come behind it costs `rest` at least. The child is written into the place that
+/// is given.
 pub(crate) fn child_by(
     exercise: &Exercise,
     sheet: &Sheet,
@@ -274,8 +282,10 @@ pub(crate) fn child_by(
     child: &mut Node,
 ) -> Option<u64>
     requires valid { IsValid exercise.now }
-    requires child { HasChild (IsNodeOf exercise.now sheet.now node.now) (columns_in exercise.now) (width_at exercise.now) k }
-    requires column { column.now.items ≡ slice_index_or (menu_of exercise.now node.now.state.newest.len) k [] }
+    requires child { HasChild (IsNodeOf exercise.now sheet.now node.now) (columns_in exercise.now)
+        (width_at exercise.now) k }
+    requires column { column.now.items
+        ≡ slice_index_or (menu_of exercise.now node.now.state.newest.len) k [] }
     requires small { rest ≤ 2 ^ 61 }
     ensures { (chained : Bool) →
         IsRestWith chained exercise.now sheet.now node.now.state.newest.len column.now.items rest →
@@ -295,8 +305,8 @@ pub(crate) fn child_by(
     Some(child.paid + child.least + rest)
 }
 
-/// The floor of the child of this number and column, which is known to be live: nothing is asked for breaks. The child is written into the
-/// place that is given.
+/// The floor of the child of this number and column, which is known to be live: nothing is asked
+/// for breaks. The child is written into the place that is given.
 fn child_again(
     exercise: &Exercise,
     sheet: &Sheet,
@@ -307,11 +317,15 @@ fn child_again(
     child: &mut Node,
 ) -> u64
     requires valid { IsValid exercise.now }
-    requires child { HasLiveChild (IsNodeOf exercise.now sheet.now node.now) (live_at exercise.now sheet.now) k }
-    requires column { column.now.items ≡ slice_index_or (menu_of exercise.now node.now.state.newest.len) k [] }
-    requires rest { IsRest exercise.now sheet.now node.now.state.newest.len column.now.items (Some rest) }
+    requires child { HasLiveChild (IsNodeOf exercise.now sheet.now node.now)
+        (live_at exercise.now sheet.now) k }
+    requires column { column.now.items
+        ≡ slice_index_or (menu_of exercise.now node.now.state.newest.len) k [] }
+    requires rest { IsRest exercise.now sheet.now node.now.state.newest.len column.now.items
+        (Some rest) }
     requires small { rest ≤ 2 ^ 61 }
-    ensures { IsMadeAgain (IsNodeOf exercise.now sheet.now) (live_at exercise.now sheet.now) k node.now child.new result }
+    ensures { IsMadeAgain (IsNodeOf exercise.now sheet.now) (live_at exercise.now sheet.now) k
+        node.now child.new result }
 {
     let Price { paid, least } = step_again(exercise, sheet, &node.state, column, &mut child.state);
     child.paid = node.paid + paid;
@@ -320,7 +334,8 @@ fn child_again(
     child.paid + least + rest
 }
 
-/// Whether a column of a menu is dead after every prefix. No answer depends on it: it spares memory.
+/// Whether a column of a menu is dead after every prefix. No answer depends on it: it spares
+/// memory.
 fn some_are_dead(exercise: &Exercise, i: usize, columns: &[Column]) -> bool
     requires valid { IsValid exercise.now }
     requires place { i < columns_in exercise.now }
@@ -333,8 +348,8 @@ fn some_are_dead(exercise: &Exercise, i: usize, columns: &[Column]) -> bool
     false
 }
 
-/// For each column of a menu the number of the first one, from it on, that isn't dead after every prefix; the menu's length where
-/// there is none. Where no column is dead they are all left out.
+/// For each column of a menu the number of the first one, from it on, that isn't dead after every
+/// prefix; the menu's length where there is none. Where no column is dead they are all left out.
 pub fn undead_numbers(
     alloc: Global,
     exercise: &Exercise,
@@ -344,7 +359,8 @@ pub fn undead_numbers(
     requires valid { IsValid exercise.now }
     requires place { i < columns_in exercise.now }
     requires few { length columns.now ≤ 8192 }
-    ensures { IfOk result (λ numbers. SkipDead exercise.now i (items_of columns.now) numbers.items) }
+    ensures { IfOk result (λ numbers. SkipDead exercise.now i (items_of columns.now)
+        numbers.items) }
 {
     if !some_are_dead(exercise, i, columns) {
         return Ok(Vec::new(alloc));

@@ -1,4 +1,5 @@
-//! A walk over the columns of a menu that passes over the dead ones, and over those that are no better than the best leaf.
+//! A walk over the columns of a menu that passes over the dead ones, and over those that are no
+//! better than the best leaf.
 
 ghost use Rattle.std.specs.Prelude.{◌≡◌, ◌<◌, ◌≤◌, ◌+◌, ◌^◌, ℕ, Bool, IfSome, IsSomeAnd, length};
 ghost use Rattle.std.specs.Bool.{OnFalse};
@@ -16,8 +17,8 @@ use fux_grid::{Cell, Exercise};
 use fux_judge::pruned_within;
 use penalty_sheet::Sheet;
 
-/// The first number, from this one on, of a column that may follow and isn't dead after every prefix; the menu's length where there
-/// is none.
+/// The first number, from this one on, of a column that may follow and isn't dead after every
+/// prefix; the menu's length where there is none.
 pub fn next_choice(menu: &MenuView<'_>, before: &[Cell], from: usize, hint: usize) -> usize
     requires cut { IsCut menu.now }
     requires bounded { AreWithin menu.now.undead.now (length (columns_seen menu.now)) }
@@ -37,10 +38,12 @@ pub fn next_choice(menu: &MenuView<'_>, before: &[Cell], from: usize, hint: usiz
     k
 }
 
-/// What a column must cost to be no better than the best leaf, where there is one and the rest costs so much at least: so much or more.
+/// What a column must cost to be no better than the best leaf, where there is one and the rest
+/// costs so much at least: so much or more.
 #[inline]
 pub fn limit_of(best: Option<u64>, at_least: u64) -> Option<u64>
-    ensures { (cost : ℕ) → IsSomeAnd result (λ limit. limit ≤ cost) → IsSomeAnd best (λ value. value ≤ at_least + cost) }
+    ensures { (cost : ℕ) → IsSomeAnd result (λ limit. limit ≤ cost) → IsSomeAnd best (λ value. value
+        ≤ at_least + cost) }
 {
     match best {
         Some(value) => Some(value.saturating_sub(at_least)),
@@ -56,8 +59,8 @@ pub(crate) trait Rests {
     /// The exercise and the sheet by which it is.
     ghost task: { Self → Task };
 
-    /// Whether a child may be better than the best leaf so far, where there is one: by what is paid, what the lines cost at least, and
-    /// the rest of its column.
+    /// Whether a child may be better than the best leaf so far, where there is one: by what is
+    /// paid, what the lines cost at least, and the rest of its column.
     fn may_be_better(&self, node: &Node, k: usize, best: Option<u64>) -> bool
         requires valid { IsValid (task self.now).exercise }
         requires node { IsInner (IsNodeOf (task self.now).exercise (task self.now).sheet node.now)
@@ -107,8 +110,8 @@ impl<'a> Rests for NoTables<'a> {
     }
 }
 
-/// The number after the columns that are passed over from this one on, and how many of the lowest voices are known to break no rule;
-/// none where the column has to be tried.
+/// The number after the columns that are passed over from this one on, and how many of the lowest
+/// voices are known to break no rule; none where the column has to be tried.
 fn passed_over<R: Rests>(
     exercise: &Exercise,
     sheet: &Sheet,
@@ -126,7 +129,8 @@ fn passed_over<R: Rests>(
     requires within { k < length (columns_seen menu.now) }
     ensures onward { IfSome result (λ end. k < end.0) }
     ensures within { IfSome result (λ end. end.0 ≤ length (columns_seen menu.now)) }
-    ensures passed { IfSome result (λ end. PassesOver R.chained exercise.now sheet.now node.now best k end.0) }
+    ensures passed { IfSome result (λ end. PassesOver R.chained exercise.now sheet.now node.now best
+        k end.0) }
 {
     if !rests.may_be_better(node, k, best) {
         return Some((k + 1, tried));
@@ -136,8 +140,9 @@ fn passed_over<R: Rests>(
     Some((menu.end_of_agreement(k, voices), voices - 1))
 }
 
-/// The first number, from this one on, of a column that may follow, has a rest, and isn't pruned by the cells of its lowest voices:
-/// they settle no strict break and don't cost too much to be better than the best. The menu's length where there is none.
+/// The first number, from this one on, of a column that may follow, has a rest, and isn't pruned by
+/// the cells of its lowest voices: they settle no strict break and don't cost too much to be better
+/// than the best. The menu's length where there is none.
 pub(crate) fn next_unpruned<R: Rests>(
     exercise: &Exercise,
     sheet: &Sheet,

@@ -154,7 +154,8 @@ impl Case {
         Ok(())
     }
 
-    /// Makes a case of `best` of one of `compose` with status 0 or 1, with the usual budget, and tells whether it is one.
+    /// Makes a case of `best` of one of `compose` with status 0 or 1, with the usual budget, and
+    /// tells whether it is one.
     pub fn begin_best(&mut self, alloc: Global) -> Result<bool, Memory> {
         let is_composed = match self.words.first() {
             Some(word) => word.as_str() == "compose",

@@ -1,5 +1,6 @@
-//! Runs the cases that standard input has, with an empty line between each two, and tells how many there are, how many of them were run
-//! by `best` too, and which of them come out otherwise than they say.
+//! Runs the cases that standard input has, with an empty line between each two, and tells how many
+//! there are, how many of them were run by `best` too, and which of them come out otherwise than
+//! they say.
 #![tactic(auto)]
 
 mod cases;

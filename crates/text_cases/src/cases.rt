@@ -1,5 +1,5 @@
-//! Cases: what reading answers (`ok`, or the kind of the fault with its line and its column), a byte 1, and the text. Between
-//! two cases stands a byte 0.
+//! Cases: what reading answers (`ok`, or the kind of the fault with its line and its column), a
+//! byte 1, and the text. Between two cases stands a byte 0.
 
 pub const CASES: &[u8] = b"\
     word 1 5\x01fux 3\nmode dorian\nvoices 2\nbars 3\nspecies 1 voice 1\ncantus 0 D4 E4 D4\nrange 1 A4 D5\n\x00\

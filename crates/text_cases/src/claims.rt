@@ -8,7 +8,8 @@ use std::alloc::Global;
 use std::fmt::Write;
 use std::test::Fail;
 
-/// Lines of claims from byte 10 on, and what is said at their end: `ok`, or what is wrong and where.
+/// Lines of claims from byte 10 on, and what is said at their end: `ok`, or what is wrong and
+/// where.
 const LINES: [(&str, &str, &str); 12] = [
     ("", "", "ok"),
     (

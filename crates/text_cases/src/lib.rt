@@ -1,4 +1,5 @@
-//! Note texts with what reading answers of each, other texts and MIDI files at the edges of what is read, and those that are written.
+//! Note texts with what reading answers of each, other texts and MIDI files at the edges of what is
+//! read, and those that are written.
 #![tactic(auto)]
 
 #[cfg(test)]

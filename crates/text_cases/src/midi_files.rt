@@ -9,8 +9,8 @@ use smf_score::{SmfFault, from_smf, to_smf};
 use std::alloc::{AllocError, Global};
 use std::test::Fail;
 
-/// A cantus and a voice above it in three bars, as an editor writes them: a track of the tempo, names, running status,
-/// keys let go by a velocity of 0, and notes a tick short.
+/// A cantus and a voice above it in three bars, as an editor writes them: a track of the tempo,
+/// names, running status, keys let go by a velocity of 0, and notes a tick short.
 const EDITED: &[u8] = b"MThd\x00\x00\x00\x06\x00\x01\x00\x03\x01\xe0\
     MTrk\x00\x00\x00\x0b\x00\xff\x51\x03\x07\xa1\x20\x00\xff\x2f\x00\
     MTrk\x00\x00\x00\x1f\x00\xff\x03\x01\x43\x00\x90\x3e\x50\x8e\x7f\x3e\x00\x01\x40\x50\x8e\x7f\x40\x00\x01\x3e\x50\x8e\x7f\x3e\x00\x00\xff\x2f\x00\

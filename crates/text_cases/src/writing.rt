@@ -60,7 +60,8 @@ fn trio(alloc: Global) -> Result<Exercise<'static>, Fail> {
     })
 }
 
-/// A whole note in each bar for the lower voices; the upper one begins after a rest and ties its notes over the bar lines.
+/// A whole note in each bar for the lower voices; the upper one begins after a rest and ties its
+/// notes over the bar lines.
 fn ties(alloc: Global) -> Result<Score, Fail> {
     let a3 = Pitch::new(26, 0).ok_or("A3")?;
     let d5 = Pitch::new(36, 0).ok_or("D5")?;

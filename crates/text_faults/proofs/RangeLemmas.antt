@@ -1,7 +1,6 @@
 -- A range line that is read place by place.
 use Rattle.std.proofs.Common.{◌≡◌, ℕ, Bool, None, Ok, refl, ◌∙◌}
 use Rattle.fux_pitch.specs.declared.pitch.Pitch.{Pitch}
-use Rattle.fux_grid.specs.declared.exercise.RangeLine.{RangeLine}
 use Rattle.fux_text.specs.declared.fault.TextKind.{TextKind}
 use Rattle.fux_text.specs.declared.fault.TextKind.TheVariants as kinds
 use Rattle.fux_text.specs.Head.{pitch_place}

@@ -1,4 +1,5 @@
--- The lines of a text by their numbers, rows of spaces, one after the other, as a loop does; and how many columns bytes take.
+-- The lines of a text by their numbers, rows of spaces, one after the other, as a loop does; and
+-- how many columns bytes take.
 use Rattle.std.proofs.Common.{◌≡◌, ℕ, suc, ◌+◌, ◌-◌, ◌<◌, ◌≤◌, Bool, true, false, List, ◌∷◌, length, replicate, refl, arith}
 use Rattle.std.specs.Prelude.{chars}
 use Rattle.std.specs.List.{after_first}

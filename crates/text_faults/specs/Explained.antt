@@ -14,7 +14,8 @@ place_line name fault = text_fault name fault.kind fault.line fault.column ++ 10
 unfoldable pub hint_line : FoundFault → List ℕ → List ℕ
 hint_line fault line = hint fault line ++ 10 ∷ []
 
--- a fault: its place and its kind, its line with a caret below the place, and what would be right there
+-- a fault: its place and its kind, its line with a caret below the place, and what would be right
+-- there
 abbrev pub told_in : List ℕ → FoundFault → List ℕ → List ℕ
 told_in name fault line =
     place_line name fault ++ (marked_line fault.column line ++ hint_line fault line)

@@ -4,7 +4,7 @@ use Rattle.std.specs.Prelude.{ℕ, List, Option, Some, None, [], Result, Ok}
 use Rattle.fux_pitch.specs.declared.pitch.Pitch.{Pitch}
 use Rattle.fux_text.specs.declared.fault.TextKind.{TextKind}
 use Rattle.fux_text.specs.declared.fault.TextKind.TheVariants as kinds
-use Rattle.fux_text.specs.Head.{mode_row, number_row, pitch_place, pitches_row, species_row}
+use Rattle.fux_text.specs.Head.{mode_row, number_row, pitches_row, species_row}
 use Rattle.fux_text.specs.Limits.{most_voices, newest_version}
 use Rattle.text_lines.specs.Faults.{Fault, ◌>>=◌}
 use Rattle.text_lines.specs.Rows.{Row, named_place, row_in}

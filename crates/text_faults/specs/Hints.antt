@@ -1,6 +1,6 @@
--- What would be right where a fault stands: for each kind of fault a table of sentences, of which the
--- first that fits is told.
-use Rattle.std.specs.Prelude.{ℕ, ◌-◌, ◌==◌, ◌&&◌, ◌||◌, not, Bool, List, [], ◌∷◌, codes, drop, length, take, if◌then◌else◌}
+-- What would be right where a fault stands: for each kind of fault a table of sentences, of which
+-- the first that fits is told.
+use Rattle.std.specs.Prelude.{ℕ, ◌-◌, ◌==◌, ◌&&◌, not, List, [], ◌∷◌, codes, drop, take, if◌then◌else◌}
 use Rattle.std.specs.List.{before_first}
 use Rattle.fux_text.specs.declared.fault.TextKind.{TextKind}
 use Rattle.fux_text.specs.declared.fault.TextKind.TheVariants as kinds

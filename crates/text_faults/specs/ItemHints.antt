@@ -1,5 +1,5 @@
 -- What would be right in the items of a `sing` or `given` line, and where a pitch is wrong.
-use Rattle.std.specs.Prelude.{ℕ, ◌&&◌, ◌||◌, not, Bool, List, [], ◌∷◌, codes, if◌then◌else◌}
+use Rattle.std.specs.Prelude.{ℕ, not, List, [], ◌∷◌, codes}
 use Rattle.std.specs.List.{after_first}
 use Rattle.text_lines.specs.Words.{is_blank}
 use Rattle.text_faults.specs.WordTests.{begins, begins_within, first_fit, has, has_digit, is_empty}

@@ -27,7 +27,8 @@ tie_said bar cells count = do
   cell ← ok_or (first_cell (length cells == 8 * bar) (latest Rest cells) names.Tie) kinds.Tie
   Ok (cell, count)
 
--- `sing V ITEMS`, where V is any voice but that of the cantus, and the items run through so many bars
+-- `sing V ITEMS`, where V is any voice but that of the cantus, and the items run through so many
+-- bars
 abbrev pub lone_sing : Known → ℕ → Row TextKind (List Cell)
 lone_sing known bars =
     Row.place (named_place kinds.Sing kinds.Sing (voice_but known.cantus_voice known.voices)) (λ v.

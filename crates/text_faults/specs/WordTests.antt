@@ -23,7 +23,8 @@ has byte text = list_any (λ b. b == byte) text
 unfoldable pub has_digit : List ℕ → Bool
 has_digit text = list_any (λ b. nat_le 48 b && nat_le b 57) text
 
--- a row of a table of sentences: a test of what stands somewhere, and what would be right where the test holds
+-- a row of a table of sentences: a test of what stands somewhere, and what would be right where the
+-- test holds
 abbrev pub Hint : Type 0
 Hint = (List ℕ → Bool) × List ℕ
 

@@ -121,8 +121,8 @@ fn take_line(
     requires { HasBars known }
     ensures known { IfOk result (λ more.
         more ≡ known_behind known (judged known (words_of line.entry))) }
-    ensures told { OnOk result
-        (faults.new.items ≡ faults.old.items ++ told_of first (judged known (words_of line.entry))) }
+    ensures told { OnOk result (faults.new.items ≡ faults.old.items
+        ++ told_of first (judged known (words_of line.entry))) }
     ensures bars { IfOk result HasBars }
 {
     match judged(alloc, known, line) {

@@ -102,7 +102,8 @@ fn word_given(cells: &mut Vec<Given>, word: Word<'_>) -> Result<(), TextFault>
 
 /// The cells of a bar, where they fill it.
 fn whole_bar(cells: &[Given]) -> Option<[Given; 8]>
-    ensures { MatchOption result (length cells.now ≢ 8) (λ bar. (length cells.now ≡ 8) × (bar ≡ cells.now)) }
+    ensures { MatchOption result (length cells.now ≢ 8) (λ bar. (length cells.now ≡ 8)
+        × (bar ≡ cells.now)) }
 {
     match <[Given; 8]>::try_from(cells) {
         Ok(bar) => Some(bar),

@@ -96,8 +96,8 @@ fn cell_said(cell: Cell, count: u32) -> Result<(Cell, u8), TextKind>
     }
 }
 
-/// An item behind so many bars and these cells: its first cell, and how many it has; or what is wrong
-/// with it.
+/// An item behind so many bars and these cells: its first cell, and how many it has; or what is
+/// wrong with it.
 #[tactic(auto, unfolding(fux_text::specs::Sing::item_said, fux_text::specs::Sing::item_named))]
 fn item_said(cells: &[Cell], bar: u8, text: &[u8]) -> Result<(Cell, u8), TextKind>
     ensures value { result ≡ item_said bar cells.now text.now }
@@ -147,7 +147,8 @@ fn is_full(cells: &[Cell], bar: u8) -> bool
     cells.len() == 8 * usize::from(bar) + 8
 }
 
-/// A bar line behind so many bars and these cells: how many bars end by it, or what is wrong with it.
+/// A bar line behind so many bars and these cells: how many bars end by it, or what is wrong with
+/// it.
 #[tactic(auto, unfolding(fux_text::specs::Sing::bar_line_said))]
 fn bar_line_said(cells: &[Cell], bars: u8, bar: u8) -> Result<u8, TextKind>
     requires { bar < bars }
@@ -163,12 +164,14 @@ fn bar_line_said(cells: &[Cell], bars: u8, bar: u8) -> Result<u8, TextKind>
     Ok(bar + 1)
 }
 
-/// Reads a word of a `sing` line behind so many bars: how many bars end by it. Its cells are appended.
+/// Reads a word of a `sing` line behind so many bars: how many bars end by it. Its cells are
+/// appended.
 #[tactic(auto, unfolding(fux_text::specs::Sing::sung_word))]
 fn sung_word(cells: &mut Vec<Cell>, bars: u8, bar: u8, word: Word<'_>) -> Result<u8, TextFault>
     requires { bar < bars }
     ensures value { Gives (λ x. (x, cells.new.items)) result
-        (told_at (word_of word.entry) (sung_word bars (bar, cells.old.items) (word_of word.entry).text)) }
+        (told_at (word_of word.entry) (sung_word bars (bar, cells.old.items)
+        (word_of word.entry).text)) }
     ensures more { IfOk result (λ x. x < bars) }
 {
     if is_same(word.text, b"|") {
@@ -186,7 +189,8 @@ fn sung_word(cells: &mut Vec<Cell>, bars: u8, bar: u8, word: Word<'_>) -> Result
     }
 }
 
-/// Whether a `sing` line may end behind so many bars and these cells, or what is wrong with its end.
+/// Whether a `sing` line may end behind so many bars and these cells, or what is wrong with its
+/// end.
 #[tactic(auto, unfolding(fux_text::specs::Sing::sung_end))]
 fn sung_end(cells: &[Cell], bars: u8, bar: u8) -> Option<TextKind>
     requires { bar < bars }

@@ -1,5 +1,5 @@
--- The bytes of a character of several bytes (`two`, `three`, `four`), and that some character begins with bytes in the ranges of one
--- (`first_begins`, `second_begins`, `third_begins`).
+-- The bytes of a character of several bytes (`two`, `three`, `four`), and that some character
+-- begins with bytes in the ranges of one (`first_begins`, `second_begins`, `third_begins`).
 use Rattle.std.proofs.Common.{◌≡◌, ℕ, ◌+◌, ◌-◌, ◌*◌, ◌/◌, ◌%◌, ◌<◌, ◌≤◌, ◌⊎◌, inl, inr, true, List, [], ◌∷◌, refl, ◌∙◌, subst, arith}
 use Rattle.std.specs.Prelude.{nat_le}
 use Rattle.std.specs.Int.{is_in_range}

@@ -1,5 +1,5 @@
--- What the library tells of bytes that are no UTF-8 is the longest front by which UTF-8 goes on (`longest_front`); there is one
--- such front (`one_front`).
+-- What the library tells of bytes that are no UTF-8 is the longest front by which UTF-8 goes on
+-- (`longest_front`); there is one such front (`one_front`).
 use Rattle.std.proofs.Common.{◌≡◌, ℕ, zero, suc, ◌+◌, ◌-◌, ◌/◌, ◌%◌, ◌<◌, ◌≤◌, ◌⊎◌, inl, inr, Bool, true, false, List, [], ◌∷◌, ◌++◌, length, take, drop, get_or, Option, Some, None, refl, sym, ap, ◌∙◌, subst, arith, append_assoc, ne_eqb}
 use Rattle.std.specs.Prelude.{nat_lt, if◌then◌else◌, slice_index}
 use Rattle.std.specs.Int.{is_in_range}

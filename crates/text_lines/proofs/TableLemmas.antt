@@ -429,7 +429,8 @@ pub table-wrong : {K R : Type 0} (table : Table K R) (text : TextLines) (f : Fau
     → IsTableFault table text f
 table-wrong table text f e = subst (Told table text) e (table-told table text)
 
--- a table is read just where its lines are right, and a fault is told just where it is the first one
+-- a table is read just where its lines are right, and a fault is told just where it is the first
+-- one
 pub tables-read : {K R : Type 0} (table : Table K R) (text : TextLines)
     → ((x : R) (rest : TextLines) → IsTable table text x rest ↔ (table_in table text ≡ Ok (x, rest)))
     × ((f : Fault K) → IsTableFault table text f ↔ (table_in table text ≡ Err f))

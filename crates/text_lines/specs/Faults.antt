@@ -1,9 +1,11 @@
--- The place of a fault, reading as a chain of steps of which the first fault counts, and what a reader answers.
+-- The place of a fault, reading as a chain of steps of which the first fault counts, and what a
+-- reader answers.
 use Rattle.std.specs.Prelude.{◌≡◌, ℕ, Result, Ok, Err}
 use Rattle.text_lines.specs.declared.fault.TextFault.{TextFault}
 use Rattle.text_lines.specs.declared.fault.TextFault.TheVariants as faults
 
--- what is wrong, by a kind that the format names, in which line and at which byte of it, both counted from 1
+-- what is wrong, by a kind that the format names, in which line and at which byte of it, both
+-- counted from 1
 pub record Fault (K : Type 0) : Type 0 where
   pub kind : K
   pub line : ℕ

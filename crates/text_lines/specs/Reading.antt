@@ -1,4 +1,5 @@
--- The steps of reading that each line is put together from: each gives its value and what is left, or the fault.
+-- The steps of reading that each line is put together from: each gives its value and what is left,
+-- or the fault.
 use Rattle.std.specs.Prelude.{ℕ, nat_eq, Bool, false, List, Option, Some, None, Result, Ok, Err, if◌then◌else◌}
 use Rattle.std.specs.Option.{ok_or}
 use Rattle.std.specs.Cmp.Lexicographic.{pointwise}
@@ -74,8 +75,8 @@ line_is name (Some found) = word_is name (first_word found.0)
 unfoldable pub begins : List ℕ → TextLines → Bool
 begins name text = line_is name (first_line text)
 
--- the words behind the first of the next line, which is this word; the kinds are of the fault where no line is left, and
--- where another line stands
+-- the words behind the first of the next line, which is this word; the kinds are of the fault where
+-- no line is left, and where another line stands
 unfoldable pub headed : {K : Type 0} → K → K → List ℕ → TextLines → Result (LineWords × TextLines) (Fault K)
 headed missing other name text = do
   line ← ok_or (first_line text) (fault_of_line missing text.after None)

@@ -1,5 +1,5 @@
--- A line as a row of places, of which each may hang on the words before it: how it is read, which lines are right, and the
--- first fault of one that isn't.
+-- A line as a row of places, of which each may hang on the words before it: how it is read, which
+-- lines are right, and the first fault of one that isn't.
 use Rattle.std.specs.Prelude.{◌≡◌, ◌⊎◌, ℕ, Bool, List, [], ◌∷◌, Option, Some, None, Result, Ok, Err, map, if◌then◌else◌}
 use Rattle.std.specs.Option.{ok_or}
 use Rattle.text_lines.specs.Faults.{Fault, ◌>>=◌}
@@ -7,19 +7,20 @@ use Rattle.text_lines.specs.Numbers.{number_within}
 use Rattle.text_lines.specs.Reading.{done, fault_at, fault_beyond, fault_past, next, same_text}
 use Rattle.text_lines.specs.Words.{LineWords, PlacedWord, first_word}
 
--- a place: the kind of the fault where its word is missing, and what a word says there, with what stands behind it, or the
--- kind of its fault
+-- a place: the kind of the fault where its word is missing, and what a word says there, with what
+-- stands behind it, or the kind of its fault
 pub record Place (K V : Type 0) : Type 0 where
   pub missing : K
   pub says : LineWords → List ℕ → Result V K
 
--- words of any number: what each makes of the words before it, and what those before the line's end say
+-- words of any number: what each makes of the words before it, and what those before the line's end
+-- say
 pub record Run (K S R : Type 0) : Type 0 where
   pub word : S → List ℕ → Result S K
   pub end : S → Result R K
 
--- the places of a line: the end, where a word too many is of a kind; or a place, and those behind it by what it says; or a
--- run of words, through the line's end
+-- the places of a line: the end, where a word too many is of a kind; or a place, and those behind
+-- it by what it says; or a run of words, through the line's end
 pub data Row (K R : Type 0) : Type 1 where
   ends : K → R → Row K R
   place : {V : Type 0} → Place K V → (V → Row K R) → Row K R
@@ -79,7 +80,8 @@ row_in (Row.runs m s) at = run_in m s at at.words
 abbrev pub texts_of : List PlacedWord → List (List ℕ)
 texts_of words = map (λ w. w.text) words
 
--- the next word is missing, and the fault is one past the line's last word; or it is refused, and the fault is at it
+-- the next word is missing, and the fault is one past the line's last word; or it is refused, and
+-- the fault is at it
 pub data Lacks {K V : Type 0} (p : Place K V) (at : LineWords) (f : Fault K) : Type 0 where
   missing : first_word at ≡ None → f ≡ fault_past p.missing at → Lacks p at f
   refused : (w : PlacedWord) (rest : LineWords) (kind : K) → first_word at ≡ Some (w, rest)
@@ -103,7 +105,8 @@ abbrev pub IsRun : {K S R : Type 0} → Run K S R → S → List (List ℕ) → 
 IsRun m s [] x = m.end s ≡ Ok x
 IsRun {S = S} m s (word ∷ words) x = (t : S) × (m.word s word ≡ Ok t) × IsRun m t words x
 
--- a word is wrong, and the fault is at it; or the line may not end so, and the fault is one past its end
+-- a word is wrong, and the fault is at it; or the line may not end so, and the fault is one past
+-- its end
 abbrev pub IsRunFault : {K S R : Type 0} → Run K S R → S → LineWords → List PlacedWord → Fault K → Type 0
 IsRunFault {K = K} m s at [] f = (kind : K) × (m.end s ≡ Err kind) × (f ≡ fault_beyond kind at)
 IsRunFault {K = K} {S = S} m s at (w ∷ ws) f =

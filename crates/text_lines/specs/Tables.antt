@@ -1,4 +1,5 @@
--- A text as a table of lines, each a row: how it is read, which texts are right, and the first fault of one that isn't.
+-- A text as a table of lines, each a row: how it is read, which texts are right, and the first
+-- fault of one that isn't.
 use Rattle.std.specs.Prelude.{◌≡◌, ◌⊎◌, ℕ, ◌<◌, ◌≤◌, ◌&&◌, Bool, true, false, List, [], ◌∷◌, ◌++◌, Some, None, Result, Ok, Err, length, take, if◌then◌else◌}
 use Rattle.std.specs.Str.{IsUtf8}
 use Rattle.text_lines.specs.Faults.{Fault, ◌>>=◌}
@@ -9,18 +10,19 @@ use Rattle.text_lines.specs.Fronts.{LongestFront}
 use Rattle.text_lines.specs.Utf8.{fault_behind, text_in}
 use Rattle.text_lines.specs.Words.{LineWords, PlacedWord, first_word}
 
--- lines of one name, as long as the next one begins so and one more may stand: their rows may hang on the lines before. The
--- kind is of the fault of a line of another name, where one of this name is read
+-- lines of one name, as long as the next one begins so and one more may stand: their rows may hang
+-- on the lines before. The kind is of the fault of a line of another name, where one of this name
+-- is read
 pub record Many (K V : Type 0) : Type 1 where
   pub other : K
   pub name : List ℕ
   pub goes : List V → Bool
   pub row : List V → Row K V
 
--- the lines of a text: nothing; a line of a name, and the kinds of the fault where none is left and where another line stands;
--- lines of one name; a fault at the line that comes next, unless something holds; the end of the text, and the kind of the
--- fault where a line is left; one table or another, by how the next line begins; or lines, and those behind them by what
--- they say
+-- the lines of a text: nothing; a line of a name, and the kinds of the fault where none is left and
+-- where another line stands; lines of one name; a fault at the line that comes next, unless
+-- something holds; the end of the text, and the kind of the fault where a line is left; one table
+-- or another, by how the next line begins; or lines, and those behind them by what they say
 pub data Table (K : Type 0) : Type 0 → Type 1 where
   says : {R : Type 0} → R → Table K R
   line : {V : Type 0} → K → K → List ℕ → Row K V → Table K V
@@ -87,8 +89,8 @@ pub record GoesWrong {K V : Type 0} (name : List ℕ) (row : Row K V) (text : Te
   pub begins : NextBegins name text words rest
   pub wrong : IsRowFault row words f
 
--- no line is left, and the fault is in the line behind the last one; or another line stands there, and the fault is at its
--- first word; or the line goes wrong behind its name
+-- no line is left, and the fault is in the line behind the last one; or another line stands there,
+-- and the fault is at its first word; or the line goes wrong behind its name
 pub data IsLineFault {K V : Type 0} (lacking other : K) (name : List ℕ) (row : Row K V) (text : TextLines) (f : Fault K)
     : Type 0 where
   missing : first_line text ≡ None → f ≡ record { kind = lacking; line = text.after; column = 1 }
@@ -145,7 +147,8 @@ IsTableFault (Table.behind {V = V} front more) text f =
 
 -- ---- bytes
 
--- a format of texts: the kinds of the faults of bytes that are too many or no UTF-8, and the lines of its texts
+-- a format of texts: the kinds of the faults of bytes that are too many or no UTF-8, and the lines
+-- of its texts
 pub record Format (K R : Type 0) : Type 1 where
   pub too_long : K
   pub not_utf8 : K
@@ -158,8 +161,8 @@ text_read format bytes = do
   x ← table_in format.lines text
   Ok x.0
 
--- the first fault of bytes: they are too many, or stop being UTF-8 behind the longest front by which UTF-8 goes on, or their lines
--- go wrong
+-- the first fault of bytes: they are too many, or stop being UTF-8 behind the longest front by
+-- which UTF-8 goes on, or their lines go wrong
 pub data IsTextFault {K R : Type 0} (format : Format K R) (bytes : List ℕ) (f : Fault K) : Type 0 where
   too_long : 65536 < length bytes → f ≡ record { kind = format.too_long; line = 1; column = 1 }
       → IsTextFault format bytes f

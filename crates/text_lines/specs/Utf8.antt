@@ -6,8 +6,8 @@ use Rattle.std.specs.Str.Lossy.{utf8_valid_len, utf8_error_len}
 use Rattle.text_lines.specs.Faults.{Fault}
 use Rattle.text_lines.specs.Lines.{TextLines, lines_in}
 
--- of bytes that begin with no character, how many may begin one: none where the first may not, else all but the last
--- of those at fault, or all where the bytes end too soon
+-- of bytes that begin with no character, how many may begin one: none where the first may not, else
+-- all but the last of those at fault, or all where the bytes end too soon
 abbrev pub begun : List ℕ → Option ℕ → ℕ
 begun rest None = length rest
 begun rest (Some n) = if is_in_range 0xC2 0xF4 (slice_index rest 0) then n else 0
@@ -36,8 +36,8 @@ fault_behind kind before = record {
 unfoldable pub fault_of_utf8 : {K : Type 0} → K → List ℕ → Fault K
 fault_of_utf8 kind bytes = fault_behind kind (take (begun_text bytes) bytes)
 
--- the lines of a text: it has at most 65,536 bytes, and they are UTF-8. The kinds are of the faults of one that is longer or
--- isn't
+-- the lines of a text: it has at most 65,536 bytes, and they are UTF-8. The kinds are of the faults
+-- of one that is longer or isn't
 unfoldable pub text_in : {K : Type 0} → K → K → List ℕ → Result TextLines (Fault K)
 text_in too_long not_utf8 bytes =
     if nat_lt 65536 (length bytes) then Err (record { kind = too_long; line = 1; column = 1 })

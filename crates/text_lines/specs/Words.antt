@@ -10,7 +10,8 @@ pub record PlacedWord : Type 0 where
   pub column : ℕ
   pub text : List ℕ
 
--- what is left of a line: its number, the column one past the words before, the column one past the line, and the words left
+-- what is left of a line: its number, the column one past the words before, the column one past the
+-- line, and the words left
 pub record LineWords : Type 0 where
   pub line : ℕ
   pub past : ℕ

@@ -9,7 +9,8 @@ use std::alloc::{AllocError, AllocFailed};
 /// Why a text is not read, where its format has faults of these kinds.
 #[derive(Clone, Copy, Debug, PartialEq, Eq)]
 pub enum TextFault<K> {
-    /// The first fault: its line, and the byte of it at which the fault stands, both counted from 1.
+    /// The first fault: its line, and the byte of it at which the fault stands, both counted from
+    /// 1.
     At { kind: K, line: u32, column: u32 },
     /// There was not enough memory.
     Memory,

@@ -1,4 +1,5 @@
-//! Texts of lines and words: where each word stands, and the first fault with its line and its column.
+//! Texts of lines and words: where each word stands, and the first fault with its line and its
+//! column.
 #![tactic(auto)]
 
 mod fault;

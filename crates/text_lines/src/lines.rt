@@ -99,7 +99,8 @@ impl<'a> Lines<'a> {
 
     /// The next line that has words and is no comment, and those behind it.
     pub fn first(self) -> Option<(Words<'a>, Lines<'a>)>
-        ensures { option_map (λ x. (words_of x.0, lines_of x.1)) result ≡ first_line (lines_of self.entry) }
+        ensures { option_map (λ x. (words_of x.0, lines_of x.1)) result
+            ≡ first_line (lines_of self.entry) }
     {
         let mut number = self.number;
         let mut rest = self.rest;
@@ -156,8 +157,8 @@ impl<'a> Lines<'a> {
         }
     }
 
-    /// What is left of the next line behind its first word, which has to be this one: the fault is of the first kind where no
-    /// line is left, and of the second where another line stands.
+    /// What is left of the next line behind its first word, which has to be this one: the fault is
+    /// of the first kind where no line is left, and of the second where another line stands.
     #[tactic(auto, unfolding(crate::specs::Reading::headed))]
     pub fn headed<K: Copy>(
         self,
@@ -165,7 +166,8 @@ impl<'a> Lines<'a> {
         other: K,
         name: &[u8],
     ) -> Result<(Words<'a>, Lines<'a>), TextFault<K>>
-        ensures { Gives (λ x. (words_of x.0, lines_of x.1)) result (headed missing other name.now (lines_of self.entry)) }
+        ensures { Gives (λ x. (words_of x.0, lines_of x.1)) result (headed missing other name.now
+            (lines_of self.entry)) }
     {
         match self.first() {
             None => Err(TextFault::At {

@@ -19,7 +19,8 @@ pub struct Words<'a> {
     pub ghost short: { column + length rest.now ≤ 65537 },
 }
 
-/// Lines that are left to be read, the number of the first of them, and that of the line after the last one.
+/// Lines that are left to be read, the number of the first of them, and that of the line after the
+/// last one.
 #[derive(Clone, Copy)]
 pub struct Lines<'a> {
     pub(crate) after: u32,

@@ -61,8 +61,8 @@ fn fault_of_utf8<K: Copy>(
 }
 
 impl<'a> Lines<'a> {
-    /// The lines of a text of at most 65,536 bytes of UTF-8: the fault is of the first kind where it has more, and of the second
-    /// where it isn't UTF-8.
+    /// The lines of a text of at most 65,536 bytes of UTF-8: the fault is of the first kind where
+    /// it has more, and of the second where it isn't UTF-8.
     #[tactic(auto, unfolding(crate::specs::Utf8::text_in))]
     pub fn of_text<K: Copy>(
         bytes: &'a [u8],

@@ -64,7 +64,8 @@ impl<'a> Word<'a> {
 impl<'a> Words<'a> {
     /// The next word and what is left behind it, if there is one.
     pub fn first(self) -> Option<(Word<'a>, Words<'a>)>
-        ensures { option_map (λ x. (word_of x.0, words_of x.1)) result ≡ first_word (words_of self.entry) }
+        ensures { option_map (λ x. (word_of x.0, words_of x.1)) result
+            ≡ first_word (words_of self.entry) }
     {
         let start = word_start(self.rest)?;
         let (_, tail) = self.rest.split_at(start);
@@ -109,7 +110,8 @@ impl<'a> Words<'a> {
     /// The next word, which has to be there.
     #[tactic(auto, unfolding(crate::specs::Reading::next))]
     pub fn next<K: Copy>(self, kind: K) -> Result<(Word<'a>, Words<'a>), TextFault<K>>
-        ensures { Gives (λ x. (word_of x.0, words_of x.1)) result (next kind (words_of self.entry)) }
+        ensures { Gives (λ x. (word_of x.0, words_of x.1)) result
+            (next kind (words_of self.entry)) }
     {
         match self.first() {
             Some(found) => Ok(found),
@@ -148,7 +150,8 @@ impl<'a> Words<'a> {
         least: u16,
         most: u16,
     ) -> Result<(u16, Words<'a>), TextFault<K>>
-        ensures value { Gives (λ x. (x.0, words_of x.1)) result (number_in kind least most (words_of self.entry)) }
+        ensures value { Gives (λ x. (x.0, words_of x.1)) result
+            (number_in kind least most (words_of self.entry)) }
         ensures least { IfOk result (λ x. least ≤ x.0) }
         ensures most { IfOk result (λ x. x.0 ≤ most) }
     {
@@ -166,7 +169,8 @@ impl<'a> Words<'a> {
         least: u8,
         most: u8,
     ) -> Result<(u8, Words<'a>), TextFault<K>>
-        ensures value { Gives (λ x. (x.0, words_of x.1)) result (number_in kind least most (words_of self.entry)) }
+        ensures value { Gives (λ x. (x.0, words_of x.1)) result
+            (number_in kind least most (words_of self.entry)) }
         ensures least { IfOk result (λ x. least ≤ x.0) }
         ensures most { IfOk result (λ x. x.0 ≤ most) }
     {

@@ -1,5 +1,5 @@
--- What a search of the front tells of a tree is exact of what is sought in it (`answers_exactly`): as many live and loaded paths there are
--- as lists, and the first leaf of least value is the best.
+-- What a search of the front tells of a tree is exact of what is sought in it (`answers_exactly`):
+-- as many live and loaded paths there are as lists, and the first leaf of least value is the best.
 use Rattle.std.specs.Prelude.{◌≡◌, ◌≢◌, ℕ, ◌+◌, ◌<◌, ◌≤◌, ◌⊎◌, ◌↔◌, List, [], ◌∷◌, ◌++◌, Option, Some, None, IsSome, IsSomeAnd, IfOk, Result, Ok, Err, length, map, refl}
 use Rattle.std.specs.List.{AllByRecursion}
 use Rattle.std.proofs.Common.{ap, ap₂, sym, ◌∙◌, subst, arith, inl, inr}
@@ -25,7 +25,8 @@ pub record IsFrontAnswer (live : List ℕ → Option ℕ) (height budget : ℕ) 
 
 -- ---- the order of paths
 
--- where one path before another leads to what is earlier, and nothing is earlier than itself, paths to the same are one
+-- where one path before another leads to what is earlier, and nothing is earlier than itself, paths
+-- to the same are one
 pub same_path : {E : Type 0} (there : List ℕ → List E) (IsEarlier : List E → List E → Type 0)
     → ((s : List E) → IsEarlier s s → ⊥) → (path other : List ℕ) → length path ≡ length other
     → (tree.IsBefore path other → IsEarlier (there path) (there other))
@@ -69,7 +70,8 @@ record PathOf {E : Type 0} (there : List ℕ → List E) (Kind : List ℕ → Ty
   leads : there path ≡ p
   kind : Kind path
 
--- paths of a kind lead to the lists of another, each of these is at the end of one, and paths to the same list are one
+-- paths of a kind lead to the lists of another, each of these is at the end of one, and paths to
+-- the same list are one
 record IsAlike {E : Type 0} (there : List ℕ → List E) (Kind : List ℕ → Type 0) (Of : List E → Type 0) : Type 0 where
   leads : (path : List ℕ) → Kind path → Of (there path)
   each : (p : List E) → Of p → PathOf there Kind p

@@ -1,6 +1,7 @@
--- Steps of a search of the front. An entry is taken (`IsOpen-first`), its children are met (`IsOpen-add`), and it is
--- done (`IsClosed-opened`, `IsClosed-leaf`). What is known where nothing waits (`first_last`, `few_last`, `no_leaf`,
--- `few_live`), and of the floor of the entry that is taken (`first_settled`, `few_below`, `bounds`).
+-- Steps of a search of the front. An entry is taken (`IsOpen-first`), its children are met
+-- (`IsOpen-add`), and it is done (`IsClosed-opened`, `IsClosed-leaf`). What is known where nothing
+-- waits (`first_last`, `few_last`, `no_leaf`, `few_live`), and of the floor of the entry that is
+-- taken (`first_settled`, `few_below`, `bounds`).
 use Rattle.std.proofs.Common.{◌≡◌, ◌≢◌, ℕ, ◌+◌, ◌<◌, ◌≤◌, ◌⊎◌, inl, inr, ⊎_elim, List, [], ◌∷◌, ◌++◌, length, zero, suc, Option, Some, None, IsSome, All, IsPermutation, refl, sym, ap, subst, ◌∙◌, arith}
 use Rattle.std.proofs.lemmas.List.{get_or_append_left, get_or_push, length_push, length-append}
 use Rattle.std.proofs.lemmas.Bool.{cases_lt, cases_eq}

@@ -53,8 +53,8 @@ pub record IsOpened (live : List ℕ → Option ℕ) (height : ℕ) (path : List
   pub is_live : live path ≡ Some floor
   pub lower : (other : List ℕ) (value : ℕ) → IsLeaf live height other value → IsBefore other path → floor < value
 
--- a live path below the root, whose parent's floor is at most this one: how many there are is the load of
--- that floor
+-- a live path below the root, whose parent's floor is at most this one: how many there are is the
+-- load of that floor
 pub record IsLoaded (live : List ℕ → Option ℕ) (floor : ℕ) (path : List ℕ) : Type 0 where
   pub is_live : IsSome (live path)
   pub parent : List ℕ
@@ -68,7 +68,8 @@ pub record IsLoaded (live : List ℕ → Option ℕ) (floor : ℕ) (path : List 
 abbrev pub AreLowerLoadsWithin : (List ℕ → Option ℕ) → ℕ → ℕ → Type 0
 AreLowerLoadsWithin live budget bound = (floor : ℕ) → floor < bound → AtMost (IsLoaded live floor) budget
 
--- more than this many are in the load of the least value, or where there is no leaf, are live below the root
+-- more than this many are in the load of the least value, or where there is no leaf, are live below
+-- the root
 pub record IsOverBudget (live : List ℕ → Option ℕ) (height budget : ℕ) : Type 0 where
   pub load : (path : List ℕ) (value : ℕ)
       → IsFirstLeast live height path value → Many (IsLoaded live value) (budget + 1)

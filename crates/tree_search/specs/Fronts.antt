@@ -98,7 +98,8 @@ IsClosed live height front reached =
     IsSearch live height front.links.items (entries front.waiting) front.best front.best_path.items
     (λ _. ⊥) reached
 
--- a front that has come as far as the floor of an entry of an earlier one, each entry of which waits or is done
+-- a front that has come as far as the floor of an entry of an earlier one, each entry of which
+-- waits or is done
 abbrev pub IsClosedAt : (List ℕ → Option ℕ) → ℕ → Front → ℕ → Front → Type 0
 IsClosedAt live height old entry new = IsClosed live height new (floor_in live old.links.items entry)
 

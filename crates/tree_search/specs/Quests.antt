@@ -1,13 +1,14 @@
--- What is sought at the ends of a tree's paths, and what a search tells of it within a budget that is spent exactly where it must be
--- (`IsExact`).
+-- What is sought at the ends of a tree's paths, and what a search tells of it within a budget that
+-- is spent exactly where it must be (`IsExact`).
 use Rattle.std.specs.Prelude.{◌≡◌, ◌≢◌, ℕ, ◌+◌, ◌<◌, ◌≤◌, ◌↔◌, ◌++◌, [], ◌∷◌, List, Option, Some, IsSome, IsSomeAnd, length}
 use Rattle.std.specs.List.{AllByRecursion}
 use Rattle.tree_search.specs.Answer.{IsBefore, IsLeaf}
 use Rattle.tree_search.specs.Outcomes.{IfFound, IfSpent, IsSpent, OnNothing}
 use Rattle.tree_search.specs.declared.outcome.Outcome.{Outcome}
 
--- lists that are sought step by step: which of them are live, so that more steps may follow, and what each of these costs at least; which
--- are lawful, and what each of these costs; and which of two comes first
+-- lists that are sought step by step: which of them are live, so that more steps may follow, and
+-- what each of these costs at least; which are lawful, and what each of these costs; and which of
+-- two comes first
 pub record Quest (E : Type 0) : Type 1 where
   pub IsLive : List E → Type 0
   pub floor : List E → Option ℕ
@@ -15,7 +16,8 @@ pub record Quest (E : Type 0) : Type 1 where
   pub penalty : List E → ℕ
   pub IsEarlier : List E → List E → Type 0
 
--- the best: it is lawful, nothing lawful costs less, and it comes before all else that is lawful and costs as much
+-- the best: it is lawful, nothing lawful costs less, and it comes before all else that is lawful
+-- and costs as much
 pub record IsBest {E : Type 0} (quest : Quest E) (s : List E) : Type 0 where
   pub lawful : quest.IsLawful s
   pub least : (t : List E) → quest.IsLawful t → quest.penalty s ≤ quest.penalty t
@@ -49,8 +51,9 @@ pub record LeadsOn {E : Type 0} (there : List ℕ → List E) (path : List ℕ) 
   pub step : E
   pub is : there (path ++ k ∷ []) ≡ there path ++ step ∷ []
 
--- the live paths are exactly those to the live lists, a step for each number, each once and in order, with their floors, and the leaves
--- exactly those to the lawful ones, with their penalties; and of two lists only one comes first
+-- the live paths are exactly those to the live lists, a step for each number, each once and in
+-- order, with their floors, and the leaves exactly those to the lawful ones, with their penalties;
+-- and of two lists only one comes first
 pub record IsTreeOf {E : Type 0} (quest : Quest E) (live : List ℕ → Option ℕ) (height : ℕ) (there : List ℕ → List E)
     : Type 0 where
   pub live_only : (path : List ℕ) → IsSome (live path) → quest.IsLive (there path)
@@ -88,7 +91,8 @@ HasAtMost Kind count = (lists : List (List _)) → AllDiffer lists → AllByRecu
 abbrev pub IsLiveBegun : {E : Type 0} → Quest E → List E → Type 0
 IsLiveBegun quest p = quest.IsLive p × (p ≢ [])
 
--- a live list that was less by a step before, where its floor was at most so much: how many there are is the load of that number
+-- a live list that was less by a step before, where its floor was at most so much: how many there
+-- are is the load of that number
 pub record IsLoaded {E : Type 0} (quest : Quest E) (most : ℕ) (p : List E) : Type 0 where
   pub live : quest.IsLive p
   pub shorter : List E
@@ -96,7 +100,8 @@ pub record IsLoaded {E : Type 0} (quest : Quest E) (most : ℕ) (p : List E) : T
   pub is : p ≡ shorter ++ last ∷ []
   pub low : IsSomeAnd (quest.floor shorter) (λ floor. floor ≤ most)
 
--- the load of the least penalty, or with nothing lawful the number of all live lists, is above the budget
+-- the load of the least penalty, or with nothing lawful the number of all live lists, is above the
+-- budget
 pub record IsOverBudget {E : Type 0} (quest : Quest E) (budget : ℕ) : Type 0 where
   pub load : (s : List E) → IsBest quest s → HasMany (IsLoaded quest (quest.penalty s)) (budget + 1)
   pub whole : HasNoLawful quest → HasMany (IsLiveBegun quest) (budget + 1)
@@ -112,8 +117,8 @@ pub record IsNothingWithin {E : Type 0} (quest : Quest E) (budget : ℕ) : Type 
   pub none : HasNoLawful quest
   pub load : HasAtMost (IsLiveBegun quest) budget
 
--- the least number whose load is above the budget; nothing lawful costs less, and the load of the least penalty, or with nothing lawful
--- the number of all live lists, is above the budget too
+-- the least number whose load is above the budget; nothing lawful costs less, and the load of the
+-- least penalty, or with nothing lawful the number of all live lists, is above the budget too
 pub record IsLeastOver {E : Type 0} (quest : Quest E) (budget bound : ℕ) : Type 0 where
   pub many : HasMany (IsLoaded quest bound) (budget + 1)
   pub least : (x : ℕ) → x < bound → HasAtMost (IsLoaded quest x) budget

@@ -20,7 +20,8 @@ pub record HasLiveChild (is_at : List ℕ → Type 0) (live : List ℕ → Optio
   pub at : is_at path
   pub is_live : IsSome (live (path ++ child ∷ []))
 
--- what was found at a path: a node that stands for it, with its floor, or nothing where no live node is
+-- what was found at a path: a node that stands for it, with its floor, or nothing where no live
+-- node is
 abbrev pub IsFoundAt : {N : Type 0} → (N → List ℕ → Type 0) → (List ℕ → Option ℕ) → List ℕ → Option (N × ℕ) → Type 0
 IsFoundAt is_at live path found =
     MatchOption found (live path ≡ None) (λ entry. is_at entry.0 path × (live path ≡ Some entry.1))
@@ -30,26 +31,29 @@ abbrev pub IsFoundChild : {N : Type 0} → (N → List ℕ → Type 0) → (List
 IsFoundChild is_at live child node found =
     (path : List ℕ) → is_at node path → IsFoundAt is_at live (path ++ child ∷ []) found
 
--- the child of this number has the floor that was found, and the node that was made stands for it; where none was found it is dead
+-- the child of this number has the floor that was found, and the node that was made stands for it;
+-- where none was found it is dead
 abbrev pub IsMadeChild : {N : Type 0} → (N → List ℕ → Type 0) → (List ℕ → Option ℕ) → ℕ → N → N → Option ℕ → Type 0
 IsMadeChild is_at live child node made found =
     (path : List ℕ) → is_at node path → MatchOption found (live (path ++ child ∷ []) ≡ None)
     (λ floor. is_at made (path ++ child ∷ []) × (live (path ++ child ∷ []) ≡ Some floor))
 
--- wherever the child of this number is live, the node that was made stands for it, and this is its floor
+-- wherever the child of this number is live, the node that was made stands for it, and this is its
+-- floor
 abbrev pub IsMadeAgain : {N : Type 0} → (N → List ℕ → Type 0) → (List ℕ → Option ℕ) → ℕ → N → N → ℕ → Type 0
 IsMadeAgain is_at live child node made floor =
     (path : List ℕ) → is_at node path → IsSome (live (path ++ child ∷ []))
     → is_at made (path ++ child ∷ []) × (live (path ++ child ∷ []) ≡ Some floor)
 
--- each child from one number up to another is dead or no better than the best leaf so far: its floor is no
--- lower than that leaf's value
+-- each child from one number up to another is dead or no better than the best leaf so far: its
+-- floor is no lower than that leaf's value
 abbrev pub AreNoBetter : (List ℕ → Option ℕ) → List ℕ → Option ℕ → ℕ → ℕ → Type 0
 AreNoBetter live path best from to =
     (child floor : ℕ) → from ≤ child → child < to → live (path ++ child ∷ []) ≡ Some floor
     → IsSomeAnd best (λ value. value ≤ floor)
 
--- the path leads to a live node with this child, that is no leaf, and whose floor is at most this one
+-- the path leads to a live node with this child, that is no leaf, and whose floor is at most this
+-- one
 pub record IsParent (live : List ℕ → Option ℕ) (width : List ℕ → ℕ) (height : ℕ) (path : List ℕ)
     (child floor : ℕ) : Type 0 where
   pub own_floor : ℕ

@@ -56,7 +56,8 @@ path_to walk level = take level walk.path.items
 abbrev pub HasBestBefore : (List ℕ → Option ℕ) → ℕ → List ℕ → Walk → Type 0
 HasBestBefore live height bound walk = IsBestBefore live height bound walk.best walk.best_path.items
 
--- a later walk has the best of the leaves down to the last one below the node at a level, or there is none of them
+-- a later walk has the best of the leaves down to the last one below the node at a level, or there
+-- is none of them
 abbrev pub HasBestAfter : (List ℕ → Option ℕ) → ℕ → (List ℕ → ℕ) → ℕ → Walk → Walk → Type 0
 HasBestAfter live height width level old new =
     HasBestBefore live height (path_to old level ++ width (path_to old level) ∷ []) new

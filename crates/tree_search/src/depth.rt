@@ -41,13 +41,14 @@ fn descend<S: Space>(space: &S, node: &S::Node, level: usize, walk: &mut Walk) -
     requires node { S.is_at space.now node.now (path_to walk.old level) }
     requires above { level < S.height space.now }
     requires lengths { HasLengths (S.height space.now) walk.old }
-    requires best { HasBestBefore (S.live space.now) (S.height space.now) (path_to walk.old level) walk.old }
+    requires best { HasBestBefore (S.live space.now) (S.height space.now) (path_to walk.old level)
+        walk.old }
     ensures path { path_to walk.new level ≡ path_to walk.old level }
     ensures lengths { HasLengths (S.height space.now) walk.new }
-    ensures best { OnTrue result
-        (HasBestAfter (S.live space.now) (S.height space.now) (S.width space.now) level walk.old walk.new) }
-    ensures opened { OnTrue result
-        (OpensUnder (S.live space.now) (S.height space.now) (S.width space.now) level walk.old walk.new) }
+    ensures best { OnTrue result (HasBestAfter (S.live space.now) (S.height space.now)
+        (S.width space.now) level walk.old walk.new) }
+    ensures opened { OnTrue result (OpensUnder (S.live space.now) (S.height space.now)
+        (S.width space.now) level walk.old walk.new) }
     ensures spent { OnFalse result
         (LacksUnder (S.live space.now) (S.height space.now) (S.width space.now) level walk.old) }
 {
@@ -75,15 +76,16 @@ fn enter<S: Space>(space: &S, node: &S::Node, level: usize, k: usize, walk: &mut
     requires within { k < S.width space.now (path_to walk.old level) }
     requires small { k < 2 ^ 16 }
     requires lengths { HasLengths (S.height space.now) walk.old }
-    requires best { HasBestBefore (S.live space.now) (S.height space.now) (path_to walk.old level ++ k ∷ []) walk.old }
+    requires best { HasBestBefore (S.live space.now) (S.height space.now) (path_to walk.old level
+        ++ k ∷ []) walk.old }
     ensures path { path_to walk.new level ≡ path_to walk.old level }
     ensures lengths { HasLengths (S.height space.now) walk.new }
-    ensures best { OnTrue result
-        (HasBestBefore (S.live space.now) (S.height space.now) (path_to walk.old level ++ (k + 1) ∷ []) walk.new) }
-    ensures opened { OnTrue result
-        (OpensFrom (S.live space.now) (S.height space.now) (path_to walk.old level ++ k ∷ []) walk.old walk.new) }
-    ensures spent { OnFalse result
-        (LacksFrom (S.live space.now) (S.height space.now) (path_to walk.old level ++ k ∷ []) walk.old) }
+    ensures best { OnTrue result (HasBestBefore (S.live space.now) (S.height space.now)
+        (path_to walk.old level ++ (k + 1) ∷ []) walk.new) }
+    ensures opened { OnTrue result (OpensFrom (S.live space.now) (S.height space.now)
+        (path_to walk.old level ++ k ∷ []) walk.old walk.new) }
+    ensures spent { OnFalse result (LacksFrom (S.live space.now) (S.height space.now)
+        (path_to walk.old level ++ k ∷ []) walk.old) }
 {
     let mut child = *node;
     let Some(floor) = space.child_into(node, k, &mut child) else {
@@ -105,19 +107,33 @@ fn enter<S: Space>(space: &S, node: &S::Node, level: usize, k: usize, walk: &mut
     true
 }
 
-/// The first leaf of least value, if a budget is enough for the nodes that have to be opened. A live node below the
-/// root is opened, and takes one unit of the budget, unless a leaf before it in the order of paths has no higher value
-/// than its floor. All memory is taken before the walk begins.
+/// The first leaf of least value, if a budget is enough for the nodes that have to be opened. A
+/// live node below the root is opened, and takes one unit of the budget, unless a leaf before it in
+/// the order of paths has no higher value than its floor. All memory is taken before the walk
+/// begins.
 pub fn search_depth<S: Space>(alloc: Global, space: &S, budget: u32) -> Result<Outcome, Memory>
-    ensures found { IfOk result (λ outcome. IfFound outcome (IsFirstLeast (S.live space.now) (S.height space.now))) }
-    ensures nothing { IfOk result (λ outcome. OnNothing outcome (HasNoLeaf (S.live space.now) (S.height space.now))) }
-    ensures spent { IfOk result (λ outcome. IfSpent outcome (λ _. Many (IsLiveBelowRoot (S.live space.now)) (budget + 1))) }
-    ensures bound { IfOk result (λ outcome. IfSpent outcome (BoundsLeaves (S.live space.now) (S.height space.now))) }
-    ensures floor { IfOk result (λ outcome. IfSpent outcome (λ bound. (floor : ℕ) → S.live space.now [] ≡ Some floor → floor ≤ bound)) }
-    ensures enough { AtMost (IsLiveBelowRoot (S.live space.now)) budget → IfOk result (λ outcome. ¬ IsSpent outcome) }
+    ensures found
+        { IfOk result (λ outcome. IfFound outcome (IsFirstLeast (S.live space.now)
+        (S.height space.now))) }
+    ensures nothing
+        { IfOk result
+        (λ outcome. OnNothing outcome (HasNoLeaf (S.live space.now) (S.height space.now))) }
+    ensures spent
+        { IfOk result (λ outcome. IfSpent outcome (λ _. Many (IsLiveBelowRoot (S.live space.now))
+        (budget + 1))) }
+    ensures bound
+        { IfOk result (λ outcome. IfSpent outcome (BoundsLeaves (S.live space.now)
+        (S.height space.now))) }
+    ensures floor
+        { IfOk result (λ outcome. IfSpent outcome (λ bound. (floor : ℕ) → S.live space.now []
+        ≡ Some floor → floor ≤ bound)) }
+    ensures enough { AtMost (IsLiveBelowRoot (S.live space.now)) budget
+        → IfOk result (λ outcome. ¬ IsSpent outcome) }
 
     // The budget is spent exactly where more nodes than that are to be opened.
-    ensures opened { IfOk result (λ outcome. IsSpent outcome ↔ Many (IsOpened (S.live space.now) (S.height space.now)) (budget + 1)) }
+    ensures opened
+        { IfOk result (λ outcome. IsSpent outcome
+        ↔ Many (IsOpened (S.live space.now) (S.height space.now)) (budget + 1)) }
 {
     let depth = space.depth();
     let path = vec![in alloc; 0u16; depth]?;

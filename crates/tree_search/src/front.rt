@@ -47,7 +47,8 @@ fn is_before(path: &[u16], other: &[u16]) -> bool
 
 /// Whether a leaf of the best value beats the best leaf, if there is one.
 fn beats(path: &[u16], best: Option<u64>, best_path: &[u16]) -> bool
-    ensures beats { OnTrue result ((value : ℕ) → best ≡ Some value → IsBefore path.now best_path.now) }
+    ensures beats { OnTrue result ((value : ℕ) → best ≡ Some value → IsBefore path.now
+        best_path.now) }
     ensures beats_not { OnFalse result (IsSome best × (IsBefore path.now best_path.now → ⊥)) }
 {
     match best {
@@ -59,7 +60,8 @@ fn beats(path: &[u16], best: Option<u64>, best_path: &[u16]) -> bool
 // So each unit of the budget takes 24 bytes: 8 for a link, and 16 for an entry that waits.
 const _: () = prove!(size_of::<Link>() == 8);
 
-/// The room of a front: a link and an entry that waits for each unit of the budget, and one entry for the root.
+/// The room of a front: a link and an entry that waits for each unit of the budget, and one entry
+/// for the root.
 fn room_for(alloc: Global, budget: u32) -> Result<(Vec<Link>, Queue), Memory>
     ensures links { IfOk result (λ room. vec_capacity room.0 ≡ budget) }
     ensures waiting { IfOk result (λ room. heap_capacity room.1.heap ≡ budget + 1) }
@@ -100,8 +102,8 @@ fn add(front: &mut Front, floor: u64, link: Link, budget: u32)
     requires room { HasRoom budget front.old }
     requires left { length front.old.links.items < budget }
     ensures links { front.new.links.items ≡ front.old.links.items ++ link ∷ [] }
-    ensures waiting { IsPermutation
-        (entry_of floor (next_number front.old) ∷ entries front.old.waiting) (entries front.new.waiting) }
+    ensures waiting { IsPermutation (entry_of floor (next_number front.old)
+        ∷ entries front.old.waiting) (entries front.new.waiting) }
     ensures queue { IsQueue front.new.waiting }
     ensures best { front.new.best ≡ front.old.best }
     ensures best_path { front.new.best_path ≡ front.old.best_path }
@@ -131,8 +133,8 @@ fn meet(front: &mut Front, path: &[u16], value: u64)
     }
 }
 
-/// Meets one child of the open entry, to which the trail leads as far as the level, and goes on to the child if it is
-/// live. It answers whether the budget was enough.
+/// Meets one child of the open entry, to which the trail leads as far as the level, and goes on to
+/// the child if it is live. It answers whether the budget was enough.
 fn take_child<S: Space>(
     space: &S,
     front: &mut Front,
@@ -143,16 +145,20 @@ fn take_child<S: Space>(
     budget: u32,
 ) -> bool
     requires open { IsOpen (S.live space.now) (S.height space.now) front.old entry k }
-    requires parent { LeadsTo (S.is_at space.now) (S.height space.now) front.old.links.items trail.old level entry }
-    requires trail { Leads (S.is_at space.now) (S.height space.now) front.old.links.items trail.old }
+    requires parent { LeadsTo (S.is_at space.now) (S.height space.now) front.old.links.items
+        trail.old level entry }
+    requires trail { Leads (S.is_at space.now) (S.height space.now) front.old.links.items
+        trail.old }
     requires above { level < S.height space.now }
     requires within { k < S.width space.now (path_in front.old.links.items entry) }
     requires small { k < 2 ^ 16 }
     requires room { HasRoom budget front.old }
     requires queue { IsQueue front.old.waiting }
-    ensures open { OnTrue result (IsOpen (S.live space.now) (S.height space.now) front.new entry (k + 1)) }
+    ensures open { OnTrue result (IsOpen (S.live space.now) (S.height space.now) front.new entry
+        (k + 1)) }
     ensures path { path_in front.new.links.items entry ≡ path_in front.old.links.items entry }
-    ensures parent { LeadsTo (S.is_at space.now) (S.height space.now) front.new.links.items trail.new level entry }
+    ensures parent { LeadsTo (S.is_at space.now) (S.height space.now) front.new.links.items
+        trail.new level entry }
     ensures trail { Leads (S.is_at space.now) (S.height space.now) front.new.links.items trail.new }
     ensures room { HasRoom budget front.new }
     ensures queue { IsQueue front.new.waiting }
@@ -174,20 +180,24 @@ fn take_child<S: Space>(
     true
 }
 
-/// Opens the entry to which the trail leads: meets each of its live children. The trail then leads to the last of them,
-/// which is the next entry of its floor. It answers whether the budget was enough.
+/// Opens the entry to which the trail leads: meets each of its live children. The trail then leads
+/// to the last of them, which is the next entry of its floor. It answers whether the budget was
+/// enough.
 fn open<S: Space>(space: &S, front: &mut Front, trail: &mut Trail<S::Node>, budget: u32) -> bool
     requires open { IsOpen (S.live space.now) (S.height space.now) front.old trail.old.entry 0 }
-    requires trail { Leads (S.is_at space.now) (S.height space.now) front.old.links.items trail.old }
+    requires trail { Leads (S.is_at space.now) (S.height space.now) front.old.links.items
+        trail.old }
     requires above { trail.old.level < S.height space.now }
     requires room { HasRoom budget front.old }
     requires queue { IsQueue front.old.waiting }
-    ensures closed { OnTrue result (IsClosedAt (S.live space.now) (S.height space.now) front.old trail.old.entry front.new) }
+    ensures closed { OnTrue result (IsClosedAt (S.live space.now) (S.height space.now) front.old
+        trail.old.entry front.new) }
     ensures trail { Leads (S.is_at space.now) (S.height space.now) front.new.links.items trail.new }
     ensures room { HasRoom budget front.new }
     ensures queue { IsQueue front.new.waiting }
     ensures taken { SameTaken front.old front.new }
-    ensures spent { OnFalse result (IsLoadAbove (S.live space.now) front.old trail.old.entry budget) }
+    ensures spent { OnFalse result (IsLoadAbove (S.live space.now) front.old trail.old.entry
+        budget) }
 {
     let level = trail.level;
     let entry = trail.entry;
@@ -217,25 +227,36 @@ fn settled(best: Option<u64>, floor: u64) -> Option<u64>
     }
 }
 
-/// The first leaf of least value, if a budget is enough for its load: the live nodes below the root whose parent's floor
-/// is at most that value. Where there is no leaf the budget has to be enough for all live nodes below the root. Where it
-/// is not, the bound is the least floor whose load is above it. All memory is taken before the walk begins, 24 bytes for
-/// each unit of the budget.
+/// The first leaf of least value, if a budget is enough for its load: the live nodes below the root
+/// whose parent's floor is at most that value. Where there is no leaf the budget has to be enough
+/// for all live nodes below the root. Where it is not, the bound is the least floor whose load is
+/// above it. All memory is taken before the walk begins, 24 bytes for each unit of the budget.
 pub fn search_front<S: Space>(alloc: Global, space: &S, budget: u32) -> Result<Outcome, Memory>
-    ensures found { IfOk result (λ outcome. IfFound outcome (IsFirstLeast (S.live space.now) (S.height space.now))) }
-    ensures nothing { IfOk result (λ outcome. OnNothing outcome (HasNoLeaf (S.live space.now) (S.height space.now))) }
+    ensures found
+        { IfOk result (λ outcome. IfFound outcome (IsFirstLeast (S.live space.now)
+        (S.height space.now))) }
+    ensures nothing
+        { IfOk result
+        (λ outcome. OnNothing outcome (HasNoLeaf (S.live space.now) (S.height space.now))) }
 
-    // The budget is spent exactly where the load of the least value, or of all where there is no leaf, is above it.
-    ensures over { IfOk result (λ outcome. IsSpent outcome ↔ IsOverBudget (S.live space.now) (S.height space.now) budget) }
+    // The budget is spent exactly where the load of the least value, or of all where there is no
+    // leaf, is above it.
+    ensures over { IfOk result (λ outcome. IsSpent outcome ↔ IsOverBudget (S.live space.now)
+        (S.height space.now) budget) }
     ensures found_load { IfOk result (λ outcome. IfFound outcome (λ _ value.
         AtMost (IsLoaded (S.live space.now) value) budget)) }
-    ensures nothing_load { IfOk result (λ outcome. OnNothing outcome (AtMost (IsLiveBelowRoot (S.live space.now)) budget)) }
+    ensures nothing_load
+        { IfOk result (λ outcome. OnNothing outcome (AtMost (IsLiveBelowRoot (S.live space.now))
+        budget)) }
 
     // The bound is the least floor whose load is above the budget, and no leaf's value is lower.
     ensures spent { IfOk result (λ outcome. IfSpent outcome (λ bound.
         Many (IsLoaded (S.live space.now) bound) (budget + 1))) }
-    ensures least { IfOk result (λ outcome. IfSpent outcome (AreLowerLoadsWithin (S.live space.now) budget)) }
-    ensures bound { IfOk result (λ outcome. IfSpent outcome (BoundsLeaves (S.live space.now) (S.height space.now))) }
+    ensures least
+        { IfOk result (λ outcome. IfSpent outcome (AreLowerLoadsWithin (S.live space.now) budget)) }
+    ensures bound
+        { IfOk result (λ outcome. IfSpent outcome (BoundsLeaves (S.live space.now)
+        (S.height space.now))) }
 {
     let depth = space.depth();
     let Some((root, floor)) = space.root() else {

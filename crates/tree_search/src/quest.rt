@@ -11,7 +11,8 @@ use crate::space::Space;
 use fux_pitch::Memory;
 use std::alloc::Global;
 
-/// A space whose leaves are exactly what is lawful of that which is sought, in order, each with its penalty.
+/// A space whose leaves are exactly what is lawful of that which is sought, in order, each with its
+/// penalty.
 pub trait QuestSpace: Space {
     /// What a number of a path adds to what is there.
     ghost Step: { Type 0 };
@@ -24,11 +25,13 @@ pub trait QuestSpace: Space {
 
     /// Does nothing, and tells that the space is the tree of what is sought.
     fn is_tree(&self)
-        ensures { IsTreeOf (quest self.now) (Self.live self.now) (Self.height self.now) (there self.now) };
+        ensures { IsTreeOf (quest self.now) (Self.live self.now) (Self.height self.now)
+            (there self.now) };
 }
 
-/// A path to the best of what is sought with its penalty, that nothing is lawful, or a bound: the budget is spent exactly where the load
-/// of the least penalty is above it, or with nothing lawful the number of all that is live.
+/// A path to the best of what is sought with its penalty, that nothing is lawful, or a bound: the
+/// budget is spent exactly where the load of the least penalty is above it, or with nothing lawful
+/// the number of all that is live.
 pub fn search_quest<S: QuestSpace>(alloc: Global, space: &S, budget: u32) -> Result<Outcome, Memory>
     ensures exact { IfOk result
         (IsExact (S.quest space.now) (S.live space.now) (S.there space.now) budget) }

@@ -17,16 +17,18 @@ type Heap = BinaryHeap<(Reverse<u64>, u32)>;
 fn push(heap: &mut Heap, floor: u64, entry: u32)
     requires heap { IsHeap entry_cmp (heap_items heap.old) }
     requires room { length (heap_items heap.old) < heap_capacity heap.old }
-    ensures pushed { IsPermutation (entry_of floor entry ∷ heap_items heap.old) (heap_items heap.new) }
+    ensures pushed { IsPermutation (entry_of floor entry ∷ heap_items heap.old)
+        (heap_items heap.new) }
     ensures heap { IsHeap entry_cmp (heap_items heap.new) }
     ensures capacity { heap_capacity heap.old ≤ heap_capacity heap.new }
 {
     let _ = heap.push((Reverse(floor), entry));
 }
 
-/// Floors with the numbers of entries: the least floor comes first, and of equal floors the latest entry, so that a search
-/// goes down before it goes on. An entry that is added as the first of all is kept beside the heap: where a search goes
-/// down, each entry is taken as soon as it is added, and the heap is left alone.
+/// Floors with the numbers of entries: the least floor comes first, and of equal floors the latest
+/// entry, so that a search goes down before it goes on. An entry that is added as the first of all
+/// is kept beside the heap: where a search goes down, each entry is taken as soon as it is added,
+/// and the heap is left alone.
 #[derive(Drop)]
 pub struct Queue {
     /// An entry that comes before all of the heap, where one is known.
@@ -89,7 +91,8 @@ impl Queue {
         requires { IsQueue self.old }
         ensures taken { IfSome result (λ entry. IsPermutation (entries self.old)
             (entry_of entry.0 entry.1 ∷ entries self.new)) }
-        ensures least { IfSome result (λ entry. All (λ other. entry.0 ≤ other.0.0) (entries self.new)) }
+        ensures least { IfSome result (λ entry. All (λ other. entry.0 ≤ other.0.0)
+            (entries self.new)) }
         ensures queue { IfSome result (λ _. IsQueue self.new) }
         ensures capacity { heap_capacity self.new.heap ≡ heap_capacity self.old.heap }
         ensures none { IfNone result (entries self.old ≡ []) }

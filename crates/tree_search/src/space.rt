@@ -2,8 +2,8 @@
 ghost use Rattle.std.specs.Prelude.{◌≡◌, ℕ, ◌≤◌, [], List, Option};
 ghost use Rattle.tree_search.specs.Space.{IsInner, HasChild, HasLiveChild, IsFoundAt, IsFoundChild, IsMadeChild, IsMadeAgain, AreNoBetter, FloorsGrow};
 
-/// A tree of bounded depth, whose live nodes have floors. A node is named by its path, the child numbers from the root
-/// to it. A node at `depth` is a leaf, and its floor is its value.
+/// A tree of bounded depth, whose live nodes have floors. A node is named by its path, the child
+/// numbers from the root to it. A node at `depth` is a leaf, and its floor is its value.
 pub trait Space {
     /// What stands for a path while the search is there.
     type Node: Copy;
@@ -32,7 +32,8 @@ pub trait Space {
     /// How many children a node has, dead ones too.
     fn count(&self, node: &Self::Node) -> usize
         requires { IsInner (is_at self.now node.now) (height self.now) }
-        ensures value { (path : List ℕ) → is_at self.now node.now path → result ≡ width self.now path }
+        ensures value { (path : List ℕ) → is_at self.now node.now path → result
+            ≡ width self.now path }
         ensures bounded { result ≤ 8192 };
 
     /// A child with its floor, if it is live.
@@ -55,8 +56,9 @@ pub trait Space {
         }
     }
 
-    /// The floor of a child that is known to be live, as a search knows of one that it comes back to. The child is written into the place
-    /// that is given. A space that can make such a child without finding out whether it is live does so here.
+    /// The floor of a child that is known to be live, as a search knows of one that it comes back
+    /// to. The child is written into the place that is given. A space that can make such a child
+    /// without finding out whether it is live does so here.
     #[inline]
     fn remake(&self, node: &Self::Node, k: usize, child: &mut Self::Node) -> u64
         requires { HasLiveChild (is_at self.now node.now) (live self.now) k }
@@ -65,14 +67,15 @@ pub trait Space {
         self.child_into(node, k, child).unwrap_or(0)
     }
 
-    /// The least number, from this one on, of a child that may be live and better than the best leaf so far, or a number
-    /// that no child has where none of the rest may be. A search tries only such children, so a space that can tell
-    /// without trying each one says so here.
+    /// The least number, from this one on, of a child that may be live and better than the best
+    /// leaf so far, or a number that no child has where none of the rest may be. A search tries
+    /// only such children, so a space that can tell without trying each one says so here.
     #[inline]
     fn next_child(&self, node: &Self::Node, from: usize, best: Option<u64>) -> usize
         requires { HasChild (is_at self.now node.now) (height self.now) (width self.now) from }
         ensures onward { from ≤ result }
-        ensures passed { (path : List ℕ) → is_at self.now node.now path → AreNoBetter (live self.now) path best from result }
+        ensures passed { (path : List ℕ) → is_at self.now node.now path
+            → AreNoBetter (live self.now) path best from result }
     {
         let _ = best;
         from

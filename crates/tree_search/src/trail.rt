@@ -13,7 +13,8 @@ use std::alloc::Global;
 pub struct Trail<N: Copy> {
     /// The number of the entry.
     pub entry: u32,
-    /// The numbers of the entries from the root to the node, and then some that mean nothing. They ascend.
+    /// The numbers of the entries from the root to the node, and then some that mean nothing. They
+    /// ascend.
     pub entries: Vec<u32>,
     /// The child numbers down to the node, and then some that mean nothing.
     pub path: Vec<u16>,
@@ -28,7 +29,8 @@ pub struct Trail<N: Copy> {
 /// A list of copies.
 fn copies<N: Copy>(alloc: Global, node: N, count: usize) -> Result<Vec<N>, Memory>
     ensures count { IfOk result (λ nodes. length nodes.items ≡ count) }
-    ensures first { IfOk result (λ nodes. (d : N) → 0 < count → slice_index_or nodes.items 0 d ≡ node) }
+    ensures first { IfOk result (λ nodes. (d : N) → 0 < count → slice_index_or nodes.items 0 d
+        ≡ node) }
 {
     let mut nodes = Vec::with_capacity(alloc, count)?;
     for _k in 0..count {
@@ -57,14 +59,17 @@ pub fn start_trail<S: Space>(
     })
 }
 
-/// Goes from the node at a level to a child, which is in the spare place: to the entry of this number.
+/// Goes from the node at a level to a child, which is in the spare place: to the entry of this
+/// number.
 pub fn place<N: Copy>(trail: &mut Trail<N>, level: usize, k: u16, entry: u32)
     requires path { level < length trail.old.path.items }
     requires nodes { level + 1 < length trail.old.nodes.items }
     requires entries { level + 1 < length trail.old.entries.items }
     ensures path { trail.new.path.items ≡ slice_set trail.old.path.items level k }
-    ensures nodes { trail.new.nodes.items ≡ slice_set trail.old.nodes.items (level + 1) trail.old.spare }
-    ensures entries { trail.new.entries.items ≡ slice_set trail.old.entries.items (level + 1) entry }
+    ensures nodes { trail.new.nodes.items ≡ slice_set trail.old.nodes.items (level + 1)
+        trail.old.spare }
+    ensures entries { trail.new.entries.items ≡ slice_set trail.old.entries.items (level + 1)
+        entry }
     ensures level { trail.new.level ≡ level + 1 }
     ensures entry { trail.new.entry ≡ entry }
 {
@@ -95,11 +100,13 @@ fn step<S: Space>(space: &S, trail: &mut Trail<S::Node>, k: u16, entry: u32)
     requires trail { IsTrail (S.is_at space.now) (S.height space.now)
         trail.old.path.items trail.old.nodes.items trail.old.level }
     requires entries { length trail.old.entries.items ≡ S.height space.now + 1 }
-    requires live { IsSome (S.live space.now (take trail.old.level trail.old.path.items ++ k ∷ [])) }
+    requires live { IsSome (S.live space.now (take trail.old.level trail.old.path.items ++ k
+        ∷ [])) }
     ensures trail { IsTrail (S.is_at space.now) (S.height space.now)
         trail.new.path.items trail.new.nodes.items trail.new.level }
     ensures path { trail.new.path.items ≡ slice_set trail.old.path.items trail.old.level k }
-    ensures entries { trail.new.entries.items ≡ slice_set trail.old.entries.items (trail.old.level + 1) entry }
+    ensures entries { trail.new.entries.items ≡ slice_set trail.old.entries.items (trail.old.level
+        + 1) entry }
     ensures level { trail.new.level ≡ trail.old.level + 1 }
     ensures entry { trail.new.entry ≡ entry }
 {
@@ -108,7 +115,8 @@ fn step<S: Space>(space: &S, trail: &mut Trail<S::Node>, k: u16, entry: u32)
     place(trail, level, k, entry);
 }
 
-/// Goes to an entry, by way of the last entry of the trail that its links lead to. Only the nodes from there on are made.
+/// Goes to an entry, by way of the last entry of the trail that its links lead to. Only the nodes
+/// from there on are made.
 pub fn go_to<S: Space>(space: &S, links: &[Link], trail: &mut Trail<S::Node>, entry: u32)
     requires linked { IsLinked links.now }
     requires within { entry ≤ length links.now }

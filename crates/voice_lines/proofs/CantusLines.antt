@@ -1,5 +1,5 @@
--- The cells of a cantus: those of its voice in a score that has it (`cantus_line`); lines with these cells are such a score
--- (`score_given`).
+-- The cells of a cantus: those of its voice in a score that has it (`cantus_line`); lines with
+-- these cells are such a score (`score_given`).
 use Rattle.std.proofs.Common.{◌≡◌, ℕ, zero, suc, ◌+◌, ◌*◌, ◌/◌, ◌%◌, ◌<◌, List, [], ◌∷◌, length, get_or, Option, Some, option_map, slice_get, refl, sym, ap, ◌∙◌, arith, cond, eqb}
 use Rattle.std.proofs.lemmas.List.{ext_get_or, length-map}
 use Rattle.std.proofs.lemmas.List.FromFn.{get_or-map-range_with_len, length-map-range_with_len}

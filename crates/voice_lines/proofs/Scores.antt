@@ -1,5 +1,6 @@
--- The columns of lines whose cells follow one another follow one another (`next_follows`), those of a score follow one another
--- in each voice (`line_follows`), and a score is that of its lines (`score_own`, `line_of_score`).
+-- The columns of lines whose cells follow one another follow one another (`next_follows`), those of
+-- a score follow one another in each voice (`line_follows`), and a score is that of its lines
+-- (`score_own`, `line_of_score`).
 use Rattle.std.proofs.Common.{◌≡◌, ℕ, zero, suc, ◌+◌, ◌-◌, ◌<◌, List, [], ◌∷◌, ◌++◌, length, map, reverse, get_or, Result, Ok, Err, refl, sym, ap, ◌∙◌, append_assoc, add-one, subst, arith}
 use Rattle.std.specs.Prelude.{All, IsTrue, OnOk, IsOk}
 use Rattle.std.specs.List.{AllByRecursion, range_with_len}

@@ -1,5 +1,6 @@
--- Where the words of a text end (`ended-word`, `ended-last`), what stands in one without the byte that ends it (`without-end`,
--- `without-none`), and that a text is read by a row just where it says so, or goes wrong so (`text-read`).
+-- Where the words of a text end (`ended-word`, `ended-last`), what stands in one without the byte
+-- that ends it (`without-end`, `without-none`), and that a text is read by a row just where it says
+-- so, or goes wrong so (`text-read`).
 use Rattle.std.proofs.Common.{◌≡◌, ◌↔◌, ℕ, ◌+◌, ◌-◌, ◌<◌, ◌≤◌, ◌==◌, Bool, true, false, List, [], ◌∷◌, ◌++◌, length, get_or, take, drop, Option, None, Some, Result, Ok, Err, refl, ap, sym, ◌∙◌, arith}
 use Rattle.std.specs.Prelude.{nat_lt, option_and_then, if◌then◌else◌}
 use Rattle.std.specs.List.{onto_first, position, position_or_len}

@@ -1,5 +1,5 @@
--- A text as a row of words, each with the byte that ends it, behind which stands what no such byte ends: how rows read it, which
--- texts are right, and of the first fault of one that isn't its kind.
+-- A text as a row of words, each with the byte that ends it, behind which stands what no such byte
+-- ends: how rows read it, which texts are right, and of the first fault of one that isn't its kind.
 use Rattle.std.specs.Prelude.{◌≡◌, ℕ, ◌+◌, ◌-◌, ◌==◌, ◌&&◌, ◌||◌, Bool, List, [], ◌∷◌, Option, Some, None, Result, Ok, Err, length, nat_lt, slice_index, take, if◌then◌else◌}
 use Rattle.std.specs.Option.{option_and_then}
 use Rattle.std.specs.List.{onto_first}

@@ -1,4 +1,5 @@
-//! Texts as one row of words, each with the byte that ends it: a line feed, or a space or a line feed.
+//! Texts as one row of words, each with the byte that ends it: a line feed, or a space or a line
+//! feed.
 #![tactic(auto)]
 
 mod places;

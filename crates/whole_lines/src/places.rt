@@ -2,7 +2,8 @@
 
 ghost use Rattle.std.specs.Prelude.{◌≤◌, ◌+◌, length};
 
-/// What is wrong with a text, by a kind that its format names, and the byte at which the fault stands, counted from 1.
+/// What is wrong with a text, by a kind that its format names, and the byte at which the fault
+/// stands, counted from 1.
 #[derive(Clone, Copy, Debug, PartialEq, Eq)]
 pub struct Fault<K> {
     pub kind: K,

@@ -28,7 +28,8 @@ fn end_in(text: &[u8]) -> Option<usize>
 /// The length of the word at the front, with the byte that ends it.
 fn word_len(text: &[u8]) -> usize
     requires { 0 < length text.now }
-    ensures cut { ended is_end text.now ≡ take result text.now ∷ ended is_end (drop result text.now) }
+    ensures cut { ended is_end text.now ≡ take result text.now
+        ∷ ended is_end (drop result text.now) }
     ensures within { result ≤ length text.now }
 {
     match end_in(text) {
@@ -73,7 +74,8 @@ impl<'a> Words<'a> {
 
     /// The next word and what is left behind it, if there is one.
     pub fn first(self) -> Option<(Word<'a>, Words<'a>)>
-        ensures { option_map (λ x. (word_of x.0, words_of x.1)) result ≡ first_word (words_of self.entry) }
+        ensures { option_map (λ x. (word_of x.0, words_of x.1)) result
+            ≡ first_word (words_of self.entry) }
     {
         if self.rest.is_empty() {
             return None;
@@ -93,7 +95,8 @@ impl<'a> Words<'a> {
     /// The next word, which has to be there.
     #[tactic(auto, unfolding(text_lines::specs::Reading::next))]
     pub fn next<K: Copy>(self, kind: K) -> Result<(Word<'a>, Words<'a>), Fault<K>>
-        ensures { Reads (λ x. (word_of x.0, words_of x.1)) result (next kind (words_of self.entry)) }
+        ensures { Reads (λ x. (word_of x.0, words_of x.1)) result
+            (next kind (words_of self.entry)) }
     {
         match self.first() {
             Some(found) => Ok(found),

@@ -1,5 +1,5 @@
--- `check` accepts what `certify` writes (`certified_is_accepted`), and `checkcantus` what `certcantus`
--- writes (`certified_cantus_is_accepted`).
+-- `check` accepts what `certify` writes (`certified_is_accepted`), and `checkcantus` what
+-- `certcantus` writes (`certified_cantus_is_accepted`).
 use Rattle.std.proofs.Common.{◌≡◌, ◌≢◌, ℕ, List, None, Some, Result, Ok, Err, inl, inr, refl, ap, subst}
 use Rattle.cantus_check.specs.Topics as cantus
 use Rattle.cantus_law.specs.Claims.{Said}
@@ -11,7 +11,6 @@ use Rattle.class_marker.specs.Markings.{IsTheText}
 use Rattle.cert_text.specs.declared.answers.CertHead.{CertHead}
 use Rattle.cert_text.specs.declared.answers.CertHead.TheVariants.{Best, Nothing}
 use Rattle.cert_text.specs.declared.answers.Form.{Form}
-use Rattle.command_words.specs.declared.command.Wanted.{Wanted}
 use Rattle.fux_grid.specs.declared.exercise.Exercise.{Exercise}
 use Rattle.fux_port.specs.Files.{HasFile}
 use Rattle.penalty_sheet.specs.declared.fault.SheetFault.{SheetFault}
@@ -20,9 +19,9 @@ use Rattle.works.specs.declared.refusal.Refusal.{Refusal}
 use Rattle.works.specs.declared.work.Output.{Output}
 use Rattle.works.specs.declared.work.Verdict.{Verdict}
 use Rattle.works.specs.declared.work.Verdict.TheVariants.{Favorable, Unfavorable, Spent}
-use Rattle.works.specs.Accepted.{CertifiedCantusIsAccepted, CertifiedIsAccepted, IsAcceptedFor, IsCantusAcceptedFor}
+use Rattle.works.specs.Accepted.{CertifiedCantusIsAccepted, CertifiedIsAccepted, IsAcceptedFor}
 use Rattle.works.specs.CantusCertified as certified
-use Rattle.works.specs.CantusCertified.{CertifiesPlan, ShowsCantus}
+use Rattle.works.specs.CantusCertified.{ShowsCantus}
 use Rattle.works.specs.CantusChecked.{ChecksPlan}
 use Rattle.works.specs.Certified.{Certifies, IsAcceptable, IsCertificateOf, Shows}
 use Rattle.works.specs.Checked.{Checks, told}

@@ -1,5 +1,5 @@
--- What `mark` makes of the bytes of an answer and of a lesson (`of_answer`), from what is answered where the lesson is refused
--- (`refused_lesson`) and where it is not (`made_by`).
+-- What `mark` makes of the bytes of an answer and of a lesson (`of_answer`), from what is answered
+-- where the lesson is refused (`refused_lesson`) and where it is not (`made_by`).
 use Rattle.std.proofs.Common.{◌≡◌, ℕ, List, [], ◌∷◌, Result, Ok, Err, inl, inr, refl}
 use Rattle.class_marker.specs.Markings.{IsContent, IsTheText}
 use Rattle.class_marker.specs.declared.one.Text.{Text as Content}

@@ -1,5 +1,5 @@
--- What the writers write for a head is the text of a certificate, where it is no longer than one may be
--- (`setting_acceptable`, `none_acceptable`, `cantus_acceptable`, `no_cantus_acceptable`).
+-- What the writers write for a head is the text of a certificate, where it is no longer than one
+-- may be (`setting_acceptable`, `none_acceptable`, `cantus_acceptable`, `no_cantus_acceptable`).
 use Rattle.std.proofs.Common.{◌≡◌, ℕ, ◌<◌, ◌≤◌, ◌^◌, List, [], ◌++◌, None, Some, length, refl, sym, subst, ◌∙◌, arith, append_assoc}
 use Rattle.std.specs.Prelude.{IfSome}
 use Rattle.std.specs.List.{AllByRecursion, flat_map}

@@ -1,6 +1,6 @@
--- A comment behind a note text changes nothing of what is read (`commented_text`): its lines are those of the text, and then
--- one that is skipped (`words_in-commented`).
-use Rattle.std.proofs.Common.{◌≡◌, ℕ, zero, suc, ◌+◌, ◌-◌, ◌/◌, ◌%◌, ◌<◌, ◌≤◌, Bool, true, false, cond, List, [], ◌∷◌, ◌++◌, length, map, take, refl, ap, sym, subst, ◌∙◌, append_assoc, arith, codes}
+-- A comment behind a note text changes nothing of what is read (`commented_text`): its lines are
+-- those of the text, and then one that is skipped (`words_in-commented`).
+use Rattle.std.proofs.Common.{◌≡◌, ℕ, zero, suc, ◌+◌, ◌-◌, ◌/◌, ◌%◌, ◌<◌, ◌≤◌, Bool, true, false, cond, List, [], ◌∷◌, ◌++◌, length, map, take, refl, ap, sym, ◌∙◌, append_assoc, arith, codes}
 use Rattle.std.specs.Prelude.{◌==◌, ◌&&◌, nat_lt, not, slice_index, if◌then◌else◌}
 use Rattle.std.specs.Fmt.{decimal, digit_glyph, digits, digits_onto}
 use Rattle.std.specs.List.{AllByRecursion, join_with_byte, list_all, onto_first, slice_split}
@@ -17,7 +17,7 @@ use Rattle.fux_grid.specs.declared.exercise.Exercise.{Exercise}
 use Rattle.fux_text.specs.Lines.{exercise_lines, exercise_text, free_voices, setting_text, sing_text, sing_words}
 use Rattle.fux_text.specs.Texts.{IsTextOf}
 use Rattle.fux_text.specs.Words.{text_line, text_of, texts, words_in}
-use Rattle.text_lines.specs.Lines.{is_comment, is_skipped, line_words, lines_from, numbered}
+use Rattle.text_lines.specs.Lines.{is_skipped, line_words, lines_from, numbered}
 use Rattle.text_lines.proofs.Parts.{lines_of_parts-more}
 use Rattle.works.specs.Composed.{penalty_line}
 

@@ -1,4 +1,5 @@
--- What `compose`, `best` and `mixed` write of a best setting is read back (`composed_is_read`, `best_is_read`, `mixed_is_read`).
+-- What `compose`, `best` and `mixed` write of a best setting is read back (`composed_is_read`,
+-- `best_is_read`, `mixed_is_read`).
 use Rattle.std.proofs.Common.{◌≡◌, ℕ, suc, ◌<◌, ◌≤◌, Bool, true, false, List, [], ◌∷◌, length, Option, None, Some, Ok, Err, inl, inr, refl, sym, ap, subst, ◌∙◌, arith, length-append}
 use Rattle.std.specs.Prelude.{All, ◌==◌, ◌&&◌, Contains, IsTrue, slice_index_or}
 use Rattle.std.specs.List.{find}

@@ -23,8 +23,8 @@ use Rattle.works.specs.Sheets.{sheet_said}
 use Rattle.works.specs.Texts.{Work}
 use Rattle.works.specs.Works.{CertifiesText, ChecksText, Files}
 
--- the output is the certificate of a head, of the exercise that a text has and over the sheet in use,
--- and other work accepts it and tells the head's penalty, or that none is lawful
+-- the output is the certificate of a head, of the exercise that a text has and over the sheet in
+-- use, and other work accepts it and tells the head's penalty, or that none is lawful
 pub record IsAcceptedFor (form : Form) (sheets : List (List ℕ)) (text : List ℕ) (written : Output) (checked : Work)
     : Type 0 where
   pub exercise : Exercise
@@ -35,8 +35,8 @@ pub record IsAcceptedFor (form : Form) (sheets : List (List ℕ)) (text : List �
   pub certificate : IsCertificateOf exercise sheet form head written.bytes
   pub accepted : checked ≡ Ok (told (Accepted (accepted_of head)))
 
--- a certificate that `certify` writes of a text, `check` of the same text, with that certificate in a
--- file, accepts
+-- a certificate that `certify` writes of a text, `check` of the same text, with that certificate in
+-- a file, accepts
 abbrev pub CertifiedIsAccepted : Type 0
 CertifiedIsAccepted =
     (budget : ℕ) (form : Form) (sheets : List (List ℕ)) (text : List ℕ) (written : Output) (files : Files)
@@ -53,8 +53,8 @@ pub record IsCantusAcceptedFor (wanted : Wanted) (sheets : List (List ℕ)) (wri
     pub certificate : of_cantus.IsCertificateOf (plan_of wanted sheet) head written.bytes
     pub accepted : checked ≡ Ok (told (Accepted (cantus.accepted_of head)))
 
--- a certificate that `certcantus` writes, `checkcantus` of the same, with that certificate in a file,
--- accepts
+-- a certificate that `certcantus` writes, `checkcantus` of the same, with that certificate in a
+-- file, accepts
 abbrev pub CertifiedCantusIsAccepted : Type 0
 CertifiedCantusIsAccepted =
     (wanted : Wanted) (budget : ℕ) (sheets : List (List ℕ)) (written : Output) (files : Files) (name : List ℕ)

@@ -50,7 +50,8 @@ OnLesson Made bytes work = ByLesson Made bytes work ⊎ OnNoLesson bytes work
 abbrev pub answer_verdict : AnswerLines → Verdict
 answer_verdict lines = marks_verdict (lines.has_mark || lines.differs)
 
--- an output tells what the setting of an answer has otherwise than the lesson, and its marks by that
+-- an output tells what the setting of an answer has otherwise than the lesson, and its marks by
+-- that
 pub record TellsAnswerOf (lesson answer : Exercise) (output : Output) : Type 0 where
   pub score : Grid
   pub given : answer.setting ≡ Some score

@@ -54,8 +54,8 @@ pub record IsWritten (old new : Option (List ℕ)) (said : Verdict) (work : Work
   pub verdict : output.verdict ≡ said
   pub written : new ≡ appended old output.bytes
 
--- work whose output was cut: a front that is shorter was written, and this is why so many bytes could
--- not be
+-- work whose output was cut: a front that is shorter was written, and this is why so many bytes
+-- could not be
 pub record IsCut (Cut : ℕ → Type 0) (old new : Option (List ℕ)) (work : Work) : Type 0 where
   pub cause : Cut (length (work_output work))
   pub front : StopsShort old new (work_output work)

@@ -1,4 +1,5 @@
--- What `compose`, `best` and `mixed` write is read back: it is a note text of the exercise, with the setting that was found.
+-- What `compose`, `best` and `mixed` write is read back: it is a note text of the exercise, with
+-- the setting that was found.
 use Rattle.std.specs.Prelude.{◌≡◌, ℕ, ◌≤◌, List, ◌++◌, Option, Some, Ok, length}
 use Rattle.class_marker.specs.Markings.{IsTheText}
 use Rattle.command_words.specs.declared.command.Job.TheVariants.{Best, Compose}
@@ -12,8 +13,8 @@ use Rattle.works.specs.Composed.{penalty_line}
 use Rattle.works.specs.Mixed.{MakesMixed}
 use Rattle.works.specs.Works.{MakesOfText}
 
--- these bytes, which were written of the exercise that a text has and of a setting with a penalty, are a note text, and of
--- no other exercise than that one with that setting
+-- these bytes, which were written of the exercise that a text has and of a setting with a penalty,
+-- are a note text, and of no other exercise than that one with that setting
 pub record IsReadBack (text bytes : List ℕ) : Type 0 where
   pub exercise : Exercise
   pub is : IsTheText text exercise

@@ -1,5 +1,5 @@
--- What `print`, `tosmf`, `toxml`, `markxml`, `picture` and `markpicture` write: an exercise with its
--- setting in another form.
+-- What `print`, `tosmf`, `toxml`, `markxml`, `picture` and `markpicture` write: an exercise with
+-- its setting in another form.
 use Rattle.std.specs.Prelude.{◌≡◌, ℕ, Bool, List, Option, None, Some, Ok, Err, length, map, nat_lt, option_map, if◌then◌else◌}
 use Rattle.std.specs.Borrow.{Bor}
 use Rattle.fux_grid.specs.declared.exercise.Exercise.{Exercise}
@@ -87,8 +87,8 @@ Pictures wanted sheet ex (Ok output) =
     (output.bytes ≡ picture_of ex None (shown_penalty wanted sheet ex)) × (output.verdict ≡ Favorable)
 Pictures wanted sheet ex (Err refusal) = ⊥
 
--- an output is the picture of the setting of an exercise with exactly its marks in red, by the rules
--- of an exercise
+-- an output is the picture of the setting of an exercise with exactly its marks in red, by the
+-- rules of an exercise
 pub record IsMarkedPicture (ex rules : Exercise) (output : Output) : Type 0 where
   pub score : Grid
   pub given : ex.setting ≡ Some score

@@ -81,8 +81,8 @@ fn mark_by(alloc: Global, lesson: &Exercise, answer: &Exercise) -> Result<Output
 
 /// The same of the text of an answer, and of that of a lesson.
 fn of_texts(alloc: Global, text: &Text, given: &Text) -> Result<Output, Stop>
-    ensures { (bytes lessons : List ℕ) → IsContent 65536 text.now bytes → IsContent 65536 given.now lessons
-        → Answers (MarksAnswer lessons bytes) result }
+    ensures { (bytes lessons : List ℕ) → IsContent 65536 text.now bytes → IsContent 65536 given.now
+        lessons → Answers (MarksAnswer lessons bytes) result }
 {
     let answer = exercise_of(alloc, text)?;
     let lesson = lesson_of(alloc, given)?;
@@ -98,8 +98,8 @@ pub fn answer<'a, F: Shelf>(
 ) -> Result<Output, Complaint<'a>>
     ensures made { IsMade (mark_answer name.entry.now lesson.entry.now) (F.files shelf.old)
         (Rose (F.faults shelf.old) (F.faults shelf.new)) result }
-    ensures served { ServesTask (F.serves shelf.old) (F.files shelf.old) (mark_answer name.entry.now lesson.entry.now)
-        → IfErr result BlamesNoFile }
+    ensures served { ServesTask (F.serves shelf.old) (F.files shelf.old)
+        (mark_answer name.entry.now lesson.entry.now) → IfErr result BlamesNoFile }
     ensures files { F.files shelf.new ≡ F.files shelf.old }
 {
     let text = read_content(alloc, shelf, name, LONGEST_TEXT)?;

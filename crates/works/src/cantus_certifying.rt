@@ -39,7 +39,8 @@ pub fn perform_cantus<'a, F: Shelf, K: Sink>(
 ) -> Result<Verdict, Complaint<'a>>
     requires { IsWanted wanted }
     ensures ended { EndsOn F.files F.faults K.written K.faults K.serves
-        (Ended (certify_cantus wanted (sheet_named sheet.entry) budget)) shelf.old shelf.new out.old out.new result }
+        (Ended (certify_cantus wanted (sheet_named sheet.entry) budget)) shelf.old shelf.new out.old
+        out.new result }
     ensures served { ServesNames (F.serves shelf.old) 65536 (as_list (sheet_named sheet.entry))
         → IfErr result BlamesNoFile }
     ensures files { F.files shelf.new ≡ F.files shelf.old }
@@ -61,8 +62,9 @@ fn certify_over<K: Sink>(
     out: &mut K,
 ) -> Result<Verdict, Halt>
     requires { IsWanted wanted.now }
-    ensures { (sheets : List (List ℕ)) → AreContents 65536 (as_list weights.now) sheets →
-        WritesTo K.written K.faults K.serves (MakesCantusCertificate wanted.now budget sheets) out.old out.new result }
+    ensures { (sheets : List (List ℕ)) → AreContents 65536 (as_list weights.now) sheets
+        → WritesTo K.written K.faults K.serves (MakesCantusCertificate wanted.now budget sheets)
+        out.old out.new result }
 {
     let sheet = sheet_of(alloc, weights)?;
     certify(alloc, wanted, &sheet, budget, out)
@@ -78,7 +80,8 @@ fn certify<K: Sink>(
     out: &mut K,
 ) -> Result<Verdict, Halt>
     requires { IsWanted wanted.now }
-    ensures { WritesTo K.written K.faults K.serves (CertifiesPlan (plan_of wanted.now sheet.now) budget) out.old out.new result }
+    ensures { WritesTo K.written K.faults K.serves (CertifiesPlan (plan_of wanted.now sheet.now)
+        budget) out.old out.new result }
 {
     let space = CantusSpace::new(wanted.mode, wanted.bars, wanted.low, wanted.high, sheet);
     let Ok(outcome) = search_quest(alloc, &space, budget) else {
@@ -108,7 +111,8 @@ fn put_certificate<K: Sink>(
     out: &mut K,
 ) -> Result<Verdict, Halt>
     requires holds { Holds space.now (said_with best) }
-    ensures { WritesTo K.written K.faults K.serves (CertifiesSaid space.now (said_with best.entry) verdict) out.old out.new result }
+    ensures { WritesTo K.written K.faults K.serves (CertifiesSaid space.now (said_with best.entry)
+        verdict) out.old out.new result }
 {
     match cantus_writer::certify_cantus(alloc, space, best, out) {
         Ok(()) => Ok(verdict),

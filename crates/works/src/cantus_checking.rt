@@ -35,10 +35,11 @@ pub fn checked_cantus<'a, F: Shelf>(
     shelf: &mut F,
 ) -> Result<Output, Complaint<'a>>
     requires { IsWanted wanted }
-    ensures made { IsMade (check_cantus wanted certificate.entry.now (sheet_named sheet.entry)) (F.files shelf.old)
-        (Rose (F.faults shelf.old) (F.faults shelf.new)) result }
+    ensures made { IsMade (check_cantus wanted certificate.entry.now (sheet_named sheet.entry))
+        (F.files shelf.old) (Rose (F.faults shelf.old) (F.faults shelf.new)) result }
     ensures served { ServesTask (F.serves shelf.old) (F.files shelf.old)
-        (check_cantus wanted certificate.entry.now (sheet_named sheet.entry)) → IfErr result BlamesNoFile }
+        (check_cantus wanted certificate.entry.now (sheet_named sheet.entry))
+        → IfErr result BlamesNoFile }
     ensures files { F.files shelf.new ≡ F.files shelf.old }
 {
     let weights = read_weights(alloc, shelf, sheet)?;
@@ -59,10 +60,12 @@ fn check_over<F: Shelf>(
     certificate: &str,
 ) -> Result<Output, Unmade>
     requires { IsWanted wanted.now }
-    ensures checks { (sheets : List (List ℕ)) → AreContents 65536 (as_list weights.now) sheets →
-        AnswersWithin (ChecksCantusBy wanted.now (F.files shelf.old) certificate.now sheets)
-        (IsReadySheet sheets × IsUnreadable F.files F.faults certificate.now shelf.old shelf.new) result }
-    ensures served { ServesWhole (F.serves shelf.old) certificate.now 1073741824 → IfErr result IsReadWithin }
+    ensures checks { (sheets : List (List ℕ)) → AreContents 65536 (as_list weights.now) sheets
+        → AnswersWithin (ChecksCantusBy wanted.now (F.files shelf.old) certificate.now sheets)
+        (IsReadySheet sheets × IsUnreadable F.files F.faults certificate.now shelf.old shelf.new)
+        result }
+    ensures served { ServesWhole (F.serves shelf.old) certificate.now 1073741824
+        → IfErr result IsReadWithin }
     ensures files { F.files shelf.new ≡ F.files shelf.old }
     ensures faults { F.faults shelf.old ≤ F.faults shelf.new }
 {
@@ -79,9 +82,11 @@ fn check<F: Shelf>(
     certificate: &str,
 ) -> Result<Output, Unmade>
     requires { IsWanted wanted.now }
-    ensures checks { AnswersWithin (ChecksPlan (plan_of wanted.now sheet.now) (F.files shelf.old) certificate.now)
-        (IsUnreadable F.files F.faults certificate.now shelf.old shelf.new) result }
-    ensures served { ServesWhole (F.serves shelf.old) certificate.now 1073741824 → IfErr result IsReadWithin }
+    ensures checks { AnswersWithin (ChecksPlan (plan_of wanted.now sheet.now) (F.files shelf.old)
+        certificate.now) (IsUnreadable F.files F.faults certificate.now shelf.old shelf.new)
+        result }
+    ensures served { ServesWhole (F.serves shelf.old) certificate.now 1073741824
+        → IfErr result IsReadWithin }
     ensures files { F.files shelf.new ≡ F.files shelf.old }
     ensures faults { F.faults shelf.old ≤ F.faults shelf.new }
 {

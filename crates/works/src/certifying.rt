@@ -43,7 +43,8 @@ pub fn certify<K: Sink, R: Threads + Sync>(
 ) -> Result<Verdict, Halt>
     requires valid { IsValid exercise.now }
     requires unmixed { exercise.now.mixed ≡ None }
-    ensures { WritesTo K.written K.faults K.serves (Certifies budget form sheet.now exercise.now) out.old out.new result }
+    ensures { WritesTo K.written K.faults K.serves (Certifies budget form sheet.now exercise.now)
+        out.old out.new result }
 {
     let space = space_of(rt, alloc, exercise, sheet)?;
     let Ok(found) = search(alloc, &space, budget) else {
@@ -86,7 +87,8 @@ fn put_certificate<K: Sink>(
     requires valid { IsValid space.now.exercise }
     requires unmixed { space.now.exercise.mixed ≡ None }
     requires holds { Holds space.now.exercise space.now.sheet (head_with best) }
-    ensures { WritesTo K.written K.faults K.serves (CertifiesFound space.now form best.entry verdict) out.old out.new result }
+    ensures { WritesTo K.written K.faults K.serves (CertifiesFound space.now form best.entry
+        verdict) out.old out.new result }
 {
     match certify_form(alloc, space, best, form, out) {
         Ok(()) => Ok(verdict),
@@ -121,10 +123,10 @@ pub fn perform_certify<'a, F: Shelf, K: Sink, R: Threads + Sync>(
     shelf: &mut F,
     out: &mut K,
 ) -> Result<Verdict, Complaint<'a>>
-    ensures ended { CertifyEnds F.files F.faults K.written K.faults K.serves name.entry sheet.entry budget form
-        shelf.old shelf.new out.old out.new result }
-    ensures served { ServesNames (F.serves shelf.old) 65536 (name.entry.now ∷ as_list (sheet_named sheet.entry))
-        → IfErr result BlamesNoFile }
+    ensures ended { CertifyEnds F.files F.faults K.written K.faults K.serves name.entry sheet.entry
+        budget form shelf.old shelf.new out.old out.new result }
+    ensures served { ServesNames (F.serves shelf.old) 65536 (name.entry.now
+        ∷ as_list (sheet_named sheet.entry)) → IfErr result BlamesNoFile }
     ensures files { F.files shelf.new ≡ F.files shelf.old }
 {
     let text = read_content(alloc, shelf, name, LONGEST_TEXT)?;
@@ -147,7 +149,8 @@ fn certify_texts<K: Sink, R: Threads + Sync>(
     form: Form,
     out: &mut K,
 ) -> Result<Verdict, Halt>
-    ensures { CertifiesTexts K.written K.faults K.serves budget form text.now weights.now out.old out.new result }
+    ensures { CertifiesTexts K.written K.faults K.serves budget form text.now weights.now out.old
+        out.new result }
 {
     let exercise = exercise_of(alloc, text)?;
     let sheet = sheet_of(alloc, weights)?;

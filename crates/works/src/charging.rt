@@ -75,7 +75,8 @@ fn weigh_score(
 
 /// Appends the line that sets a penalty beside the best.
 fn put_difference(out: &mut String, penalty: u64, best: u64) -> Result<(), Memory>
-    ensures { OnOk result (string_bytes out.new ≡ string_bytes out.old ++ difference_line penalty best) }
+    ensures { OnOk result (string_bytes out.new ≡ string_bytes out.old ++ difference_line penalty
+        best) }
 {
     if best <= penalty {
         let more = penalty - best;
@@ -89,7 +90,8 @@ fn put_difference(out: &mut String, penalty: u64, best: u64) -> Result<(), Memor
 
 /// Appends the line that sets a penalty beside what was found.
 fn put_against(out: &mut String, penalty: u64, found: &Found) -> Result<(), Memory>
-    ensures { OnOk result (string_bytes out.new ≡ string_bytes out.old ++ against_line penalty found.now) }
+    ensures { OnOk result (string_bytes out.new ≡ string_bytes out.old ++ against_line penalty
+        found.now) }
 {
     match found {
         Found::Best { penalty: best, .. } => put_difference(out, penalty, *best)?,

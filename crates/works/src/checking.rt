@@ -28,8 +28,10 @@ pub fn check<F: Shelf, R: Threads + Sync>(
     certificate: &str,
 ) -> Result<Output, Unmade>
     requires { IsValid exercise.now }
-    ensures checks { ChecksOn F.files F.faults certificate.now sheet.now exercise.now shelf.old shelf.new result }
-    ensures served { ServesWhole (F.serves shelf.old) certificate.now 1073741824 → IfErr result IsReadWithin }
+    ensures checks { ChecksOn F.files F.faults certificate.now sheet.now exercise.now shelf.old
+        shelf.new result }
+    ensures served { ServesWhole (F.serves shelf.old) certificate.now 1073741824
+        → IfErr result IsReadWithin }
     ensures files { F.files shelf.new ≡ F.files shelf.old }
     ensures faults { F.faults shelf.old ≤ F.faults shelf.new }
 {

@@ -44,7 +44,8 @@ impl<T: Drop> From<AllocFailed<T>> for Unread {
 fn read_texts<F: Shelf>(alloc: Global, shelf: &mut F, names: &[String]) -> Result<Vec<Text>, Unread>
     ensures reads { ReadsTexts (F.files shelf.old) (Rose (F.faults shelf.old) (F.faults shelf.new))
         (map string_bytes names.now) result }
-    ensures served { ServesNames (F.serves shelf.old) 65536 (map string_bytes names.now) → IfErr result CouldRead }
+    ensures served { ServesNames (F.serves shelf.old) 65536 (map string_bytes names.now)
+        → IfErr result CouldRead }
     ensures files { F.files shelf.new ≡ F.files shelf.old }
     ensures faults { F.faults shelf.old ≤ F.faults shelf.new }
 {
@@ -105,8 +106,8 @@ fn report_files<F: Shelf, R: Threads + Sync>(
     names: Vec<String>,
     shelf: &mut F,
 ) -> Result<Output, Complaint<'static>>
-    ensures reports { ReportsFiles (F.files shelf.old) (Rose (F.faults shelf.old) (F.faults shelf.new))
-        (map string_bytes names.items) result }
+    ensures reports { ReportsFiles (F.files shelf.old)
+        (Rose (F.faults shelf.old) (F.faults shelf.new)) (map string_bytes names.items) result }
     ensures served { ServesNames (F.serves shelf.old) 65536 (map string_bytes names.items)
         → IfErr result BlamesNoFile }
     ensures files { F.files shelf.new ≡ F.files shelf.old }
@@ -131,8 +132,8 @@ pub fn class<'a, F: Shelf, R: Threads + Sync>(
 ) -> Result<Output, Complaint<'a>>
     ensures made { IsMade (class_report list.entry.now) (F.files shelf.old)
         (Rose (F.faults shelf.old) (F.faults shelf.new)) result }
-    ensures served { ServesTask (F.serves shelf.old) (F.files shelf.old) (class_report list.entry.now)
-        → IfErr result BlamesNoFile }
+    ensures served { ServesTask (F.serves shelf.old) (F.files shelf.old)
+        (class_report list.entry.now) → IfErr result BlamesNoFile }
     ensures files { F.files shelf.new ≡ F.files shelf.old }
 {
     let text = read_content(alloc, shelf, list, LONGEST_TEXT)?;

@@ -18,7 +18,8 @@ pub fn read_content<'a, F: Shelf>(
     name: &'a str,
     limit: usize,
 ) -> Result<Text, Complaint<'a>>
-    ensures reads { Reads limit (F.files shelf.old) (Rose (F.faults shelf.old) (F.faults shelf.new)) name.now result }
+    ensures reads { Reads limit (F.files shelf.old) (Rose (F.faults shelf.old) (F.faults shelf.new))
+        name.now result }
     ensures served { ServesWhole (F.serves shelf.old) name.now limit → IfErr result BlamesNoFile }
     ensures serving { Keeps (F.serves shelf.old) (F.serves shelf.new) }
     ensures files { F.files shelf.new ≡ F.files shelf.old }

@@ -87,7 +87,8 @@ fn heading(alloc: Global, number: u32, exercise: &Exercise) -> Result<String, Me
 
 /// Appends the names of pitches, with a space before each.
 pub fn put_pitches(text: &mut String, pitches: &[Pitch]) -> Result<(), Memory>
-    ensures { OnOk result (string_bytes text.new ≡ string_bytes text.old ++ spaced (map name_of pitches.now)) }
+    ensures { OnOk result (string_bytes text.new ≡ string_bytes text.old
+        ++ spaced (map name_of pitches.now)) }
 {
     for pitch in pitches {
         write!(text, " {pitch}")?;

@@ -59,7 +59,8 @@ fn faults_output(
     shown: &[u8],
     first: FoundFault,
 ) -> Result<Output, Memory>
-    ensures bytes { IfOk result (λ output. output.bytes ≡ explained_faults name.now shown.now first) }
+    ensures bytes { IfOk result (λ output. output.bytes ≡ explained_faults name.now shown.now
+        first) }
     ensures verdict { IfOk result (λ output. output.verdict ≡ Unfavorable) }
 {
     let bytes = explained_faults(alloc, name, shown, first)?;
@@ -82,7 +83,8 @@ fn refused_output(alloc: Global, name: &str, shown: &[u8], refusal: Refusal) -> 
 
 /// What explains the exercise of a text, or each fault of a text that is of none.
 pub fn explain(alloc: Global, name: &str, text: &Text) -> Result<Output, Stop>
-    ensures { (bytes : List ℕ) → IsContent 65536 text.now bytes → Answers (Explains name.now bytes) result }
+    ensures { (bytes : List ℕ) → IsContent 65536 text.now bytes → Answers (Explains name.now bytes)
+        result }
 {
     match exercise_of(alloc, text) {
         Ok(exercise) => explained_output(alloc, &exercise),

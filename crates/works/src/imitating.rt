@@ -39,8 +39,8 @@ pub fn canon<'a, F: Shelf>(
     budget: u32,
     shelf: &mut F,
 ) -> Result<Output, Complaint<'a>>
-    ensures made { IsMade (find_canon name.entry.now (sheet_named sheet.entry) budget) (F.files shelf.old)
-        (Rose (F.faults shelf.old) (F.faults shelf.new)) result }
+    ensures made { IsMade (find_canon name.entry.now (sheet_named sheet.entry) budget)
+        (F.files shelf.old) (Rose (F.faults shelf.old) (F.faults shelf.new)) result }
     ensures served { ServesTask (F.serves shelf.old) (F.files shelf.old)
         (find_canon name.entry.now (sheet_named sheet.entry) budget) → IfErr result BlamesNoFile }
     ensures files { F.files shelf.new ≡ F.files shelf.old }
@@ -52,7 +52,8 @@ pub fn canon<'a, F: Shelf>(
 
 /// The best of the canons that a text asks for, over the file of a sheet where one is given.
 fn of_text(alloc: Global, text: &Text, weights: &Option<Text>, budget: u32) -> Result<Output, Stop>
-    ensures { OnTexts text.now weights.now (λ bytes sheets. Answers (MakesCanon budget sheets bytes) result) }
+    ensures { OnTexts text.now weights.now (λ bytes sheets. Answers (MakesCanon budget sheets bytes)
+        result) }
 {
     let Text::Bytes(bytes) = text else {
         return Err(Stop::Refused(Refusal::Canon { line: 1 }));
@@ -82,7 +83,8 @@ fn imitate(
     budget: u32,
 ) -> Result<Output, Memory>
     requires { IsCanon canon.now }
-    ensures { IfOk result (λ output. TellsCanon text.now canon.now sheet.now budget output.verdict output.bytes) }
+    ensures { IfOk result (λ output. TellsCanon text.now canon.now sheet.now budget output.verdict
+        output.bytes) }
 {
     let space = CanonSpace::new(canon, sheet);
     match search_quest(alloc, &space, budget)? {
@@ -105,7 +107,8 @@ fn best_bytes(
 ) -> Result<Vec<u8>, Memory>
     requires live { IsSome (live_at space.now.canon space.now.sheet path.now) }
     requires some { 0 < length path.now }
-    ensures { IfOk result (λ bytes. bytes.items ≡ canon_answer text.now (bars_at path.now) penalty) }
+    ensures { IfOk result (λ bytes. bytes.items ≡ canon_answer text.now (bars_at path.now)
+        penalty) }
 {
     let score = canon_score(alloc, space, path)?;
     let mut bytes = Vec::new(alloc);

@@ -63,7 +63,8 @@ fn of_weights(
 /// What is written of the best cantus, or that there is none, or a bound.
 fn invent(alloc: Global, wanted: &Wanted, sheet: &Sheet, budget: u32) -> Result<Output, Memory>
     requires { IsWanted wanted.now }
-    ensures { IfOk result (λ output. TellsCantus (plan_of wanted.now sheet.now) budget output.verdict output.bytes) }
+    ensures { IfOk result (λ output. TellsCantus (plan_of wanted.now sheet.now) budget
+        output.verdict output.bytes) }
 {
     let space = CantusSpace::new(wanted.mode, wanted.bars, wanted.low, wanted.high, sheet);
     match search_quest(alloc, &space, budget)? {
@@ -81,7 +82,8 @@ fn invent(alloc: Global, wanted: &Wanted, sheet: &Sheet, budget: u32) -> Result<
 
 /// The lines of a cantus and of a penalty.
 fn best_text(alloc: Global, cantus: &[Pitch], penalty: u64) -> Result<String, Memory>
-    ensures { IfOk result (λ text. string_bytes text ≡ cantus_line cantus.now ++ penalty_line penalty) }
+    ensures { IfOk result (λ text. string_bytes text ≡ cantus_line cantus.now
+        ++ penalty_line penalty) }
 {
     let mut text = String::new(alloc);
     text.push_str("cantus")?;

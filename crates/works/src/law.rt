@@ -12,15 +12,16 @@ pub fn best_is_composed()
     ensures ends { BestEndsAsComposed }
 {}
 
-/// What `certify` writes, `check` of the same exercise accepts, and tells the penalty that was found
-/// or that none is lawful; and so does `checkcantus` with what `certcantus` writes. It does nothing.
+/// What `certify` writes, `check` of the same exercise accepts, and tells the penalty that was
+/// found or that none is lawful; and so does `checkcantus` with what `certcantus` writes. It does
+/// nothing.
 pub fn certified_is_accepted()
     ensures settings { CertifiedIsAccepted }
     ensures cantus { CertifiedCantusIsAccepted }
 {}
 
-/// What `compose`, `best` and `mixed` write of a best setting is a note text of the exercise with that
-/// setting, where it is no longer than a text may be. It does nothing.
+/// What `compose`, `best` and `mixed` write of a best setting is a note text of the exercise with
+/// that setting, where it is no longer than a text may be. It does nothing.
 pub fn written_is_read()
     ensures composed { ComposedIsRead }
     ensures best { BestIsRead }

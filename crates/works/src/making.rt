@@ -117,8 +117,8 @@ pub fn read_weights<'a, F: Shelf>(
     shelf: &mut F,
     name: Option<&'a str>,
 ) -> Result<Option<Text>, Complaint<'a>>
-    ensures reads { ReadsSheetFile (F.files shelf.old) (Rose (F.faults shelf.old) (F.faults shelf.new))
-        (sheet_named name.entry) result }
+    ensures reads { ReadsSheetFile (F.files shelf.old)
+        (Rose (F.faults shelf.old) (F.faults shelf.new)) (sheet_named name.entry) result }
     ensures served { ServesNames (F.serves shelf.old) 65536 (as_list (sheet_named name.entry))
         → IfErr result BlamesNoFile }
     ensures serving { Keeps (F.serves shelf.old) (F.serves shelf.new) }
@@ -139,7 +139,8 @@ fn of_texts<R: Threads + Sync>(
     weights: &Option<Text>,
     job: Job,
 ) -> Result<Output, Stop>
-    ensures { OnTexts text.now weights.now (λ bytes sheets. Answers (MakesOfText job sheets bytes) result) }
+    ensures { OnTexts text.now weights.now (λ bytes sheets. Answers (MakesOfText job sheets bytes)
+        result) }
 {
     let exercise = exercise_of(alloc, text)?;
     let sheet = sheet_of(alloc, weights)?;
@@ -156,8 +157,10 @@ fn check_texts<F: Shelf, R: Threads + Sync>(
     shelf: &mut F,
     certificate: &str,
 ) -> Result<Output, Unmade>
-    ensures checks { ChecksTexts F.files F.faults certificate.now text.now weights.now shelf.old shelf.new result }
-    ensures served { ServesWhole (F.serves shelf.old) certificate.now 1073741824 → IfErr result IsReadWithin }
+    ensures checks { ChecksTexts F.files F.faults certificate.now text.now weights.now shelf.old
+        shelf.new result }
+    ensures served { ServesWhole (F.serves shelf.old) certificate.now 1073741824
+        → IfErr result IsReadWithin }
     ensures files { F.files shelf.new ≡ F.files shelf.old }
     ensures faults { F.faults shelf.old ≤ F.faults shelf.new }
 {

@@ -52,10 +52,11 @@ pub fn on_mixed<'a, F: Shelf>(
     shelf: &mut F,
 ) -> Result<Output, Complaint<'a>>
     requires { AreNamed named.now }
-    ensures made { IsMade (on_mixed name.entry.now (sheet_named sheet.entry) named.now job) (F.files shelf.old)
-        (Rose (F.faults shelf.old) (F.faults shelf.new)) result }
+    ensures made { IsMade (on_mixed name.entry.now (sheet_named sheet.entry) named.now job)
+        (F.files shelf.old) (Rose (F.faults shelf.old) (F.faults shelf.new)) result }
     ensures served { ServesTask (F.serves shelf.old) (F.files shelf.old)
-        (on_mixed name.entry.now (sheet_named sheet.entry) named.now job) → IfErr result BlamesNoFile }
+        (on_mixed name.entry.now (sheet_named sheet.entry) named.now job)
+        → IfErr result BlamesNoFile }
     ensures files { F.files shelf.new ≡ F.files shelf.old }
 {
     let text = read_content(alloc, shelf, name, LONGEST_TEXT)?;
@@ -73,7 +74,8 @@ fn of_texts(
     job: MixedJob,
 ) -> Result<Output, Stop>
     requires { AreNamed named.now }
-    ensures { OnTexts text.now weights.now (λ bytes sheets. Answers (MakesMixed named.now job sheets bytes) result) }
+    ensures { OnTexts text.now weights.now
+        (λ bytes sheets. Answers (MakesMixed named.now job sheets bytes) result) }
 {
     let exercise = exercise_of(alloc, text)?;
     let species = species_of(&exercise, named)?;
@@ -144,8 +146,8 @@ fn found_output(
 ) -> Result<Output, Memory>
     requires mixed { IsMixed m.now }
     requires space { space.now.exercise ≡ exercise_of m.now }
-    ensures { IfOk result (λ output.
-        TellsMixed m.now.ex.now space.now.exercise space.now.sheet budget output.verdict output.bytes) }
+    ensures { IfOk result (λ output. TellsMixed m.now.ex.now space.now.exercise space.now.sheet
+        budget output.verdict output.bytes) }
 {
     match search_quest(alloc, space, budget)? {
         Outcome::Found { path, value } => Ok(Output::of_text(
@@ -169,8 +171,8 @@ fn best_at(
     requires space { space.now.exercise ≡ exercise_of m.now }
     requires alive { is_alive_path space.now.exercise path.now ≡ true }
     requires setting { IsSetting space.now.exercise (prefix_at space.now.exercise path.now) }
-    ensures text { IfOk result (λ text. string_bytes text
-        ≡ setting_text m.now.ex.now (prefix_at space.now.exercise path.now) ++ penalty_line penalty) }
+    ensures text { IfOk result (λ text. string_bytes text ≡ setting_text m.now.ex.now
+        (prefix_at space.now.exercise path.now) ++ penalty_line penalty) }
     ensures cantus { HasCantus m.now.ex.now (prefix_at space.now.exercise path.now) }
 {
     let score = score_of(alloc, space, path)?;

@@ -27,7 +27,8 @@ const TOO_LONG: SmfFault = SmfFault::Bytes(ByteFault::TooLong);
 /// The note text of the exercise that a MIDI file is, with its setting.
 pub fn from_smf(alloc: Global, file: &Text, head: &Head) -> Result<Output, Stop>
     requires { IsHead head.now }
-    ensures { (bytes : List ℕ) → IsContent 1048576 file.now bytes → Answers (ReadsMidi head.now bytes) result }
+    ensures { (bytes : List ℕ) → IsContent 1048576 file.now bytes
+        → Answers (ReadsMidi head.now bytes) result }
 {
     let Text::Bytes(bytes) = file else {
         return Err(Stop::Refused(Refusal::Midi { fault: TOO_LONG }));

@@ -71,7 +71,8 @@ pub fn refusal_text(alloc: Global, name: &str, refusal: &Refusal) -> Result<Labe
 
 /// Appends what is said of a refused file of this name.
 fn put_refusal(text: &mut String, name: &str, refusal: &Refusal) -> Result<(), Memory>
-    ensures { OnOk result (string_bytes text.new ≡ string_bytes text.old ++ refusal_text name.now refusal.now) }
+    ensures { OnOk result (string_bytes text.new ≡ string_bytes text.old ++ refusal_text name.now
+        refusal.now) }
 {
     match refusal {
         Refusal::Text { kind, line, column } => {
@@ -93,7 +94,8 @@ fn put_refusal(text: &mut String, name: &str, refusal: &Refusal) -> Result<(), M
 
 /// Appends what is said of a column that is too wide.
 fn put_width(text: &mut String, place: Place, count: u64) -> Result<(), Memory>
-    ensures { OnOk result (string_bytes text.new ≡ string_bytes text.old ++ width_text place count) }
+    ensures { OnOk result (string_bytes text.new ≡ string_bytes text.old ++ width_text place
+        count) }
 {
     let bar = place.bar;
     let slot = place.slot;

@@ -14,7 +14,8 @@ use std::alloc::Global;
 
 /// The sheet that a file is, or the usual one where there is none.
 pub fn sheet_of(alloc: Global, file: &Option<Text>) -> Result<Sheet, Stop>
-    ensures { (bytes : List (List ℕ)) → AreContents 65536 (as_list file.now) bytes → ReadsSheet bytes result }
+    ensures { (bytes : List (List ℕ)) → AreContents 65536 (as_list file.now) bytes
+        → ReadsSheet bytes result }
 {
     match file {
         None => Ok(default_sheet()),

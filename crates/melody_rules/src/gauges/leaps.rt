@@ -12,7 +12,8 @@ use fux_grid::{Cell, Exercise};
 use fux_pitch::{Pitch, interval_of};
 use rule_law::{Gauge, is_leap, starts_ahead};
 
-/// The pitch of a line's latest note, how many notes it has, and how many of them are entered by a leap.
+/// The pitch of a line's latest note, how many notes it has, and how many of them are entered by a
+/// leap.
 #[derive(Clone, Copy, Debug, PartialEq, Eq)]
 pub struct Leaps {
     pub last: Option<Pitch>,

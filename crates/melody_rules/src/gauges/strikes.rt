@@ -11,7 +11,8 @@ use fux_grid::{Cell, Exercise};
 use fux_pitch::Pitch;
 use rule_law::Gauge;
 
-/// How often each pitch was struck, by degree and alteration, and how many notes were beyond the fourth of their pitch.
+/// How often each pitch was struck, by degree and alteration, and how many notes were beyond the
+/// fourth of their pitch.
 #[derive(Clone, Copy, Debug, PartialEq, Eq)]
 pub struct Strikes {
     pub counts: [u8; 147],

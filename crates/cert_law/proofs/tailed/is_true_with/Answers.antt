@@ -1,7 +1,7 @@
-use Rattle.std.proofs.Common.{◌≡◌, ◌<◌, ◌≤◌, ◌*◌, ◌++◌, ◌∷◌, [], List, length, slice_index_or, refl, ap, sym, ◌∙◌, subst}
+use Rattle.std.proofs.Common.{◌≡◌, ◌++◌, ◌∷◌, [], List, length, refl, ap, sym, ◌∙◌, subst}
 use Rattle.std.proofs.lemmas.Bool.{OnTrue_at}
 use Rattle.cert_law.specs.Cases.{matter_of}
-use Rattle.cert_law.specs.Known.{IsKnown, column_after, tailed_of, tree_in}
+use Rattle.cert_law.specs.Known.{column_after, tailed_of, tree_in}
 use Rattle.cert_law.proofs.KnownLemmas.{known_small, step_column, step_full, step_goes_on, step_place, step_room, step_small, step_within}
 use Rattle.fux_grid.specs.declared.cell.Cell.{Cell}
 use Rattle.rule_law.specs.Prefixes.{GoesOn}

@@ -1,4 +1,4 @@
-use Rattle.std.proofs.Common.{◌≡◌, ◌++◌, ◌∷◌, reverse, ap, sym, ◌∙◌, subst}
+use Rattle.std.proofs.Common.{◌++◌, reverse, ap, sym, ◌∙◌, subst}
 use Rattle.cert_tree.specs.Trees.{OwesRefuting}
 use Rattle.cert_tree.specs.Walks.{owed_later, node_at}
 use Rattle.cert_tree.proofs.Levels.{owed-taken}

@@ -1,4 +1,4 @@
-use Rattle.std.proofs.Common.{ap, sym, ◌∙◌}
+use Rattle.std.proofs.Common.{sym, ◌∙◌}
 use Rattle.std.proofs.lemmas.Bool.{OnFalse_at, OnTrue_at}
 use Rattle.cert_tree.specs.Judgings.{standing_of}
 use Rattle.cert_tree.proofs.Fed.{are_certified, are_none, some_none}

@@ -1,7 +1,7 @@
 use Rattle.std.proofs.Common.{◌≡◌, [], None, refl, sym, subst}
 use Rattle.cert_law.specs.Cases.{matter_of}
 use Rattle.cert_law.specs.Known.{IsKnown, Tailed, tree_in, ways_of}
-use Rattle.cert_law.specs.Writer.{claims_of, first_claim}
+use Rattle.cert_law.specs.Writer.{claims_of}
 use Rattle.cert_law.proofs.FloorFacts.{floors_hold}
 use Rattle.cert_law.proofs.WrittenClaims.{all_true}
 use Rattle.cert_tree.specs.Trees.{AreTrueFrom, claims_from}

@@ -1,4 +1,4 @@
-use Rattle.std.proofs.Common.{◌++◌, ℕ, List, length, string_bytes, ap, ◌∙◌, subst, sym, refl, arith}
+use Rattle.std.proofs.Common.{◌++◌, ℕ, List, length, string_bytes, ap, ◌∙◌, subst, sym, arith}
 use Rattle.cert_law.specs.Cases.{Matter}
 use Rattle.cert_writer.specs.Stages.{lines_left}
 use Rattle.cert_writer.proofs.Certificates.{whole_text, whole_too_long, whole_within}

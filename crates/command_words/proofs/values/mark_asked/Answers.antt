@@ -1,4 +1,4 @@
-use Rattle.std.proofs.Common.{Some, ap, ◌∙◌, refl}
+use Rattle.std.proofs.Common.{Some, ap, refl}
 use Rattle.command_words.specs.Commands.{marking_of}
 use Rattle.command_words.proofs.values.mark_asked.Goals as goal
 

@@ -1,4 +1,4 @@
-use Rattle.std.proofs.Common.{◌≡◌, [], ◌++◌, ◌∷◌, length, append_assoc, codes, subst}
+use Rattle.std.proofs.Common.{◌≡◌, [], ◌++◌, ◌∷◌, length, append_assoc, codes}
 use Rattle.fux_port.specs.Promises.{KeepsRoom}
 use Rattle.fux_port.specs.Written.{appended, StopsShort}
 use Rattle.fux_run.proofs.SinkLemmas.{gets_more, gets_part, gets_written}

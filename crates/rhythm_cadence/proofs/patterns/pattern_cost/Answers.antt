@@ -1,4 +1,5 @@
--- Q16 is the sum of four tests, one for each voice (`counted`); where no bar begins, or the first, it costs nothing.
+-- Q16 is the sum of four tests, one for each voice (`counted`); where no bar begins, or the first,
+-- it costs nothing.
 use Rattle.std.proofs.Common.{◌≡◌, ℕ, ◌+◌, ◌&&◌, Bool, true, false, [], ap, sym, ◌∙◌, arith, drop}
 use Rattle.std.specs.Int.{from_bool}
 use Rattle.std.specs.Prelude.{cond, nat_le, nat_lt, slice_index_or}

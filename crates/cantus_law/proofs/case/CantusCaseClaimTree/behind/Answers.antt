@@ -1,10 +1,10 @@
-use Rattle.std.proofs.Common.{◌≡◌, ◌<◌, ◌+◌, ◌++◌, ◌∷◌, [], length, reverse, ap, ◌∙◌, subst, sym, arith}
+use Rattle.std.proofs.Common.{◌≡◌, ◌<◌, ◌+◌, ◌++◌, ◌∷◌, [], length, reverse, subst, arith}
 use Rattle.std.specs.Prelude.{nat_lt}
 use Rattle.std.proofs.lemmas.Bool.{and_parts, ltb-true}
 use Rattle.std.proofs.lemmas.List.{length-reverse}
 use Rattle.fux_pitch.specs.declared.pitch.Pitch.{Pitch}
 use Rattle.cantus_space.specs.Cantus.{is_in_pool}
-use Rattle.cantus_space.specs.Known.{HasRoom, IsFirstOfPool, pool_from}
+use Rattle.cantus_space.specs.Known.{IsFirstOfPool, pool_from}
 use Rattle.cantus_space.specs.Numbers.{numbered_pitch}
 use Rattle.cantus_law.specs.Known.{IsJudged}
 use Rattle.cantus_law.specs.WayLaws.{few}

@@ -1,5 +1,5 @@
-use Rattle.std.proofs.Common.{List, [], sym, subst}
-use Rattle.cert_tree.specs.Judgings.{IsFedCertified, IsFedNone, IsKept, standing_of}
+use Rattle.std.proofs.Common.{List, sym, subst}
+use Rattle.cert_tree.specs.Judgings.{IsKept}
 use Rattle.cert_law.specs.Cases.{Matter}
 use Rattle.cert_law.specs.Certificates.{Begins, Holds}
 use Rattle.cert_law.specs.Known.{IsKnown, Tailed, tailed_of, tree_in, ways_of}

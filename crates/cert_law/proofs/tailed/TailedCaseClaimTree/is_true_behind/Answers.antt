@@ -1,6 +1,6 @@
-use Rattle.std.proofs.Common.{◌≡◌, IsTrue, sym, subst}
+use Rattle.std.proofs.Common.{IsTrue, sym, subst}
 use Rattle.std.specs.Prelude.{◌↔◌}
-use Rattle.cert_law.specs.Known.{IsBehindKnown, IsStepOf, Tailed, own_in, tree_in}
+use Rattle.cert_law.specs.Known.{IsBehindKnown, IsStepOf, Tailed, tree_in}
 use Rattle.cert_law.proofs.tailed.TailedCaseClaimTree.is_true_behind.Goals as goal
 
 pub is_true_with-requires-clause-step : goal.is_true_with-requires-clause-step

@@ -1,6 +1,5 @@
-use Rattle.std.proofs.Common.{◌≡◌, IsTrue, sym, subst}
-use Rattle.std.specs.Prelude.{◌↔◌}
-use Rattle.cert_law.specs.Known.{IsBehindKnown, IsStepOf, Tailed, own_in, tree_in}
+use Rattle.std.proofs.Common.{◌≡◌, sym, subst}
+use Rattle.cert_law.specs.Known.{IsBehindKnown, IsStepOf, Tailed, own_in}
 use Rattle.cert_law.proofs.tailed.TailedCaseClaimTree.own_claim_behind.Goals as goal
 
 pub claim_with-requires-clause-step : goal.claim_with-requires-clause-step
