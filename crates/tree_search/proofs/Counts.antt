@@ -49,7 +49,7 @@ without (x ∷ xs) path (inr h) =
     (x ∷ less.0, omega (arith, less.1), λ other apart h. ⊎_elim (λ e. inl e) (λ more. inr (less.2 other apart more)) h)
 
 -- paths that differ, each of which is among others, are at most as many
-length-le-among : (xs ys : List (List ℕ)) → AllDiffer xs → AllByRecursion (IsAmong ys) xs → length xs ≤ length ys
+pub length-le-among : (xs ys : List (List ℕ)) → AllDiffer xs → AllByRecursion (IsAmong ys) xs → length xs ≤ length ys
 length-le-among [] ys differ among = omega arith
 length-le-among (x ∷ xs) ys differ among =
     let rest = without ys x among.0 in

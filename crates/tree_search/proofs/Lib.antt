@@ -9,6 +9,10 @@ pub mod Frontier
 pub mod Loads
 pub mod Entered
 pub mod Queues
+pub mod Kept
 pub mod Searches
+pub mod Nth
 pub mod Agreement
 pub mod Quests
+pub mod NthQuests
+pub mod TheFirst

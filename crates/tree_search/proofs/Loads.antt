@@ -3,9 +3,9 @@ use Rattle.std.proofs.Common.{◌≡◌, ◌≢◌, ℕ, ◌+◌, ◌-◌, ◌<�
 use Rattle.std.specs.List.{AllByRecursion, IsDistinct, list_any}
 use Rattle.std.proofs.lemmas.Map.Steps.{length-le_from_distinct_below}
 use Rattle.std.proofs.lemmas.Bool.{eqb-true}
-use Rattle.tree_search.specs.Answer.{IsLoaded, IsLiveBelowRoot, IsFirstLeast, HasNoLeaf, BoundsLeaves, IsOverBudget, AllDiffer, Many, AtMost}
+use Rattle.tree_search.specs.Answer.{IsLoaded, IsLiveBelowRoot, AllDiffer, Many, AtMost}
 use Rattle.tree_search.specs.Fronts.{IsFront, IsOpening}
-use Rattle.tree_search.proofs.Counts.{Many-add, Many-one, Many-by, no_more, each_by}
+use Rattle.tree_search.proofs.Counts.{Many-add, Many-one, Many-by, each_by}
 use Rattle.tree_search.specs.Space.{FloorsGrow}
 use Rattle.tree_search.proofs.Frontier.{InArena, loaded_met, met, child_not_root}
 use Rattle.tree_search.proofs.Trails.{some_of}
@@ -154,7 +154,7 @@ module _ {live : List ℕ → Option ℕ} {width : List ℕ → ℕ} {height : �
       budget 1 (budget + 1) refl all one
 
 -- a higher floor's load is no smaller
-loaded_higher : (live : List ℕ → Option ℕ) (x y n : ℕ) → x ≤ y → Many (IsLoaded live x) n → Many (IsLoaded live y) n
+pub loaded_higher : (live : List ℕ → Option ℕ) (x y n : ℕ) → x ≤ y → Many (IsLoaded live x) n → Many (IsLoaded live y) n
 loaded_higher live x y n le =
     Many-by (IsLoaded live x) (IsLoaded live y)
     (λ path h. record {
@@ -170,27 +170,7 @@ loaded_higher live x y n le =
     n n refl
 
 -- what is loaded is live
-loaded_live : (live : List ℕ → Option ℕ) (x n : ℕ) → Many (IsLoaded live x) n → Many (IsLiveBelowRoot live) n
+pub loaded_live : (live : List ℕ → Option ℕ) (x n : ℕ) → Many (IsLoaded live x) n → Many (IsLiveBelowRoot live) n
 loaded_live live x n =
     Many-by (IsLoaded live x) (IsLiveBelowRoot live)
     (λ path h. (h.is_live, λ none. child_not_root h.parent h.child (sym h.is ∙ none))) n n refl
-
--- a bound, whose load is above the budget
-pub over_budget : (live : List ℕ → Option ℕ) (height budget bound : ℕ) → BoundsLeaves live height bound
-    → Many (IsLoaded live bound) (budget + 1) → IsOverBudget live height budget
-over_budget live height budget bound bounds many = record {
-  load = λ path value first. loaded_higher live bound value (budget + 1) (bounds path value first.leaf) many;
-  whole = λ _. loaded_live live bound (budget + 1) many;
-}
-
--- the budget is enough
-pub enough_found : (live : List ℕ → Option ℕ) (height budget : ℕ) (path : List ℕ) (value : ℕ)
-    → IsFirstLeast live height path value → AtMost (IsLoaded live value) budget
-    → IsOverBudget live height budget → ⊥
-enough_found live height budget path value first few over =
-    no_more (IsLoaded live value) budget (budget + 1) (omega arith) few (over.load path value first)
-
-pub enough_none : (live : List ℕ → Option ℕ) (height budget : ℕ) → HasNoLeaf live height
-    → AtMost (IsLiveBelowRoot live) budget → IsOverBudget live height budget → ⊥
-enough_none live height budget none few over = no_more (IsLiveBelowRoot live) budget (budget + 1)
-    (omega arith) few (over.whole none)

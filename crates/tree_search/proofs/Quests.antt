@@ -65,17 +65,17 @@ shorter_same (a ∷ p) (b ∷ q) x y e =
 -- ---- as many paths as lists
 
 -- a path of a kind to a list
-record PathOf {E : Type 0} (there : List ℕ → List E) (Kind : List ℕ → Type 0) (p : List E) : Type 0 where
-  path : List ℕ
-  leads : there path ≡ p
-  kind : Kind path
+pub record PathOf {E : Type 0} (there : List ℕ → List E) (Kind : List ℕ → Type 0) (p : List E) : Type 0 where
+  pub path : List ℕ
+  pub leads : there path ≡ p
+  pub kind : Kind path
 
 -- paths of a kind lead to the lists of another, each of these is at the end of one, and paths to
 -- the same list are one
-record IsAlike {E : Type 0} (there : List ℕ → List E) (Kind : List ℕ → Type 0) (Of : List E → Type 0) : Type 0 where
-  leads : (path : List ℕ) → Kind path → Of (there path)
-  each : (p : List E) → Of p → PathOf there Kind p
-  once : (path other : List ℕ) → Kind path → Kind other → there path ≡ there other → path ≡ other
+pub record IsAlike {E : Type 0} (there : List ℕ → List E) (Kind : List ℕ → Type 0) (Of : List E → Type 0) : Type 0 where
+  pub leads : (path : List ℕ) → Kind path → Of (there path)
+  pub each : (p : List E) → Of p → PathOf there Kind p
+  pub once : (path other : List ℕ) → Kind path → Kind other → there path ≡ there other → path ≡ other
 
 -- paths of a kind to given lists
 record PathsOf {E : Type 0} (there : List ℕ → List E) (Kind : List ℕ → Type 0) (lists : List (List E)) : Type 0 where
@@ -120,7 +120,7 @@ module _ {E : Type 0} (there : List ℕ → List E) (Kind : List ℕ → Type 0)
     paths_differ [] d = tt
     paths_differ (path ∷ paths) d = (other_paths path paths d.0, paths_differ paths d.1)
 
-    many_lists : (count : ℕ) → tree.Many Kind count → HasMany Of count
+    pub many_lists : (count : ℕ) → tree.Many Kind count → HasMany Of count
     many_lists count many = record {
       lists = map there many.paths;
       counted = length-map many.paths there ∙ many.counted;
@@ -128,7 +128,7 @@ module _ {E : Type 0} (there : List ℕ → List E) (Kind : List ℕ → Type 0)
       kind = all_lead many.paths many.kind;
     }
 
-    many_paths : (count : ℕ) → HasMany Of count → tree.Many Kind count
+    pub many_paths : (count : ℕ) → HasMany Of count → tree.Many Kind count
     many_paths count many =
         let ways = each_path many.lists many.kind in
         record {
@@ -138,16 +138,21 @@ module _ {E : Type 0} (there : List ℕ → List E) (Kind : List ℕ → Type 0)
           kind = ways.kind;
         }
 
-    few_lists : (count : ℕ) → tree.AtMost Kind count → HasAtMost Of count
+    pub few_lists : (count : ℕ) → tree.AtMost Kind count → HasAtMost Of count
     few_lists count few lists differ kind =
         let ways = each_path lists kind in
         subst (λ n. n ≤ count) (sym (length-map ways.paths there) ∙ ap length ways.lead)
         (few ways.paths (paths_differ ways.paths (subst AllDiffer (sym ways.lead) differ)) ways.kind)
 
+    pub few_paths : (count : ℕ) → HasAtMost Of count → tree.AtMost Kind count
+    few_paths count few paths differ kind =
+        subst (λ n. n ≤ count) (length-map paths there)
+        (few (map there paths) (lists_differ paths kind differ) (all_lead paths kind))
+
 module _ {E : Type 0} (quest : Quest E) (live : List ℕ → Option ℕ) (width : List ℕ → ℕ) (height : ℕ)
     (there : List ℕ → List E) (of : IsTreeOf quest live height there) (grow : FloorsGrow live width height)
   where
-    is_there : (path : List ℕ) (value : ℕ) → live path ≡ Some value → IsSome (live path)
+    pub is_there : (path : List ℕ) (value : ℕ) → live path ≡ Some value → IsSome (live path)
     is_there path value e = subst IsSome (sym e) refl
 
     begun : (path : List ℕ) → path ≢ [] → there path ≢ []
@@ -162,7 +167,7 @@ module _ {E : Type 0} (quest : Quest E) (live : List ℕ → Option ℕ) (width 
         nonempty (y ∷ xs) x e = cc
 
     -- live paths below the root and live lists of one step or more
-    live_alike : IsAlike there (tree.IsLiveBelowRoot live) (IsLiveBegun quest)
+    pub live_alike : IsAlike there (tree.IsLiveBelowRoot live) (IsLiveBegun quest)
     live_alike = record {
       leads = λ path h. (of.live_only path h.0, begun path h.1);
       each = λ p h.
@@ -227,7 +232,7 @@ module _ {E : Type 0} (quest : Quest E) (live : List ℕ → Option ℕ) (width 
               }
 
       -- loaded paths and loaded lists
-      loaded_alike : IsAlike there (tree.IsLoaded live x) (IsLoaded quest x)
+      pub loaded_alike : IsAlike there (tree.IsLoaded live x) (IsLoaded quest x)
       loaded_alike = record {
         leads = loaded_leads;
         each = λ p loaded.

@@ -1,113 +1,100 @@
 -- Steps of a search of the front. An entry is taken (`IsOpen-first`), its children are met
 -- (`IsOpen-add`), and it is done (`IsClosed-opened`, `IsClosed-leaf`). What is known where nothing
--- waits (`first_last`, `few_last`, `no_leaf`, `few_live`), and of the floor of the entry that is
--- taken (`first_settled`, `few_below`, `bounds`).
-use Rattle.std.proofs.Common.{◌≡◌, ◌≢◌, ℕ, ◌+◌, ◌<◌, ◌≤◌, ◌⊎◌, inl, inr, ⊎_elim, List, [], ◌∷◌, ◌++◌, length, zero, suc, Option, Some, None, IsSome, All, IsPermutation, refl, sym, ap, subst, ◌∙◌, arith}
+-- waits (`few_last`, `few_live`), and of the floor of the entry that is taken (`few_below`); what
+-- is known of the leaves that are kept then stands in `Nth`.
+use Rattle.std.proofs.Common.{◌≡◌, ◌≢◌, ℕ, ◌+◌, ◌<◌, ◌≤◌, inl, ⊎_elim, List, [], ◌∷◌, ◌++◌, length, zero, suc, Option, Some, None, All, IsPermutation, refl, sym, ap, subst, ◌∙◌, arith}
 use Rattle.std.proofs.lemmas.List.{get_or_append_left, get_or_push, length_push, length-append}
+use Rattle.std.proofs.lemmas.List.Elements.{All-map, All-nil}
 use Rattle.std.proofs.lemmas.Bool.{cases_lt, cases_eq}
-use Rattle.tree_search.specs.Answer.{IsBefore, IsLeaf, IsFirstLeast, HasNoLeaf, BoundsLeaves, AtMost, IsLoaded, IsLiveBelowRoot}
+use Rattle.tree_search.specs.Answer.{AtMost, IsLoaded, IsLiveBelowRoot}
 use Rattle.tree_search.specs.Space.{FloorsGrow}
 use Rattle.tree_search.specs.declared.links.Link.{Link}
 use Rattle.tree_search.specs.Links.{path_in}
 use Rattle.tree_search.specs.Entries.{Entry, numbers}
-use Rattle.tree_search.specs.Fronts.{times, Covers, IsFront, IsOpening, IsSearch, IsBestLeaf, floor_of, floor_in}
-use Rattle.tree_search.proofs.Order.{IsBefore-trans}
+use Rattle.tree_search.specs.Finds.{Leaf, Covers, TakesIn, leaf_numbers}
+use Rattle.tree_search.specs.Fronts.{times, IsFront, IsMet, IsOpening, IsSearch, floor_of, floor_in}
 use Rattle.tree_search.proofs.Arena.{path_in-earlier, path_in-last}
 use Rattle.tree_search.proofs.Waits.{times-same, times-other, times-permutation, All_at, All_from}
 use Rattle.tree_search.proofs.Entered.{numbers-permutation, HaveFloors-add, HaveFloors-rest, taken_floor, least_number}
 use Rattle.tree_search.proofs.Trails.{some_of}
-use Rattle.tree_search.proofs.Frontier.{IsFront-add, IsOpening-add, IsOpening-passed, IsFront-opened, IsFront-leaf, IsFront-pop, IsOpening-pop, leaf_met, child_not_root}
+use Rattle.tree_search.proofs.Frontier.{IsFront-add, IsOpening-add, IsOpening-passed, IsFront-opened, IsFront-leaf, IsFront-pop, IsOpening-pop, child_not_root}
 use Rattle.tree_search.proofs.Floors.{none_from}
 use Rattle.tree_search.proofs.Loads.{at_most_loaded, at_most_live}
-
--- a leaf that beats the best covers what that covered
-pub covers_on : (best : Option ℕ) (best_path path : List ℕ) (value : ℕ)
-    → ((b : ℕ) → best ≡ Some b → b ≡ value) → ((b : ℕ) → best ≡ Some b → IsBefore path best_path) →
-    (other : List ℕ) (its : ℕ) → Covers best best_path other its
-    → (value ≤ its) × (value ≡ its → IsBefore other path → ⊥)
-covers_on None best_path path value level beats other its h = absurd h
-covers_on (Some b) best_path path value level beats other its h = (
-  omega (arith, level b refl, h.0),
-  λ e before. h.1 (level b refl ∙ e)
-      (IsBefore-trans other path best_path before (beats b refl)),
-)
+use Rattle.tree_search.proofs.Kept.{taken_met, taken_once, taken_covers, taken_keeps}
 
 times_none : (n : ℕ) (xs : List ℕ) → (0 < times n xs → ⊥) → times n xs ≡ 0
 times_none n xs never = ⊎_elim (λ some. absurd (never some)) (λ none. omega (arith, none)) (cases_lt 0 (times n xs))
 
--- the best leaf is level with what is reached
-level_best : (live : List ℕ → Option ℕ) (height reached f : ℕ) (best : Option ℕ) (best_path : List ℕ)
-    → IsBestLeaf live height reached best best_path → reached ≤ f → ((v : ℕ) → best ≡ Some v → f ≤ v)
-    → (v : ℕ) → best ≡ Some v → v ≡ f
-level_best live height reached f None best_path own up unsettled v e = cc
-level_best live height reached f (Some w) best_path own up unsettled v e = let same : w ≡ v = cc in
-    omega (arith, own.1, up, unsettled v e, same)
-
-best_reached : (live : List ℕ → Option ℕ) (height reached f : ℕ) (best : Option ℕ) (best_path : List ℕ)
-    → IsBestLeaf live height reached best best_path → reached ≤ f → ((v : ℕ) → best ≡ Some v → f ≤ v)
-    → IsBestLeaf live height f best best_path
-best_reached live height reached f None best_path own up unsettled = tt
-best_reached live height reached f (Some v) best_path own up unsettled =
-    (own.0, sym (level_best live height reached f (Some v) best_path own up unsettled v refl))
-
--- a leaf was met
-best_met : (live : List ℕ → Option ℕ) (height f : ℕ) (best best' : Option ℕ)
-    (best_path best_path' path : List ℕ) → IsBestLeaf live height f best best_path →
-    best' ≡ Some f → (best_path' ≡ path) ⊎ (IsSome best × (best_path' ≡ best_path))
-    → IsLeaf live height path f → IsBestLeaf live height f best' best_path'
-best_met live height f best best' best_path best_path' path own is one leaf =
-    subst (λ (o : Option ℕ). IsBestLeaf live height f o best_path') (sym is)
-    (⊎_elim (λ e. (subst (λ (p : List ℕ). IsLeaf live height p f) (sym e) leaf, refl))
-    (λ kept. by_best best kept.0 kept.1 own) one)
-  where
-    by_best : (b : Option ℕ) → IsSome b → best_path' ≡ best_path → IsBestLeaf live height f b best_path
-        → IsLeaf live height best_path' f × (f ≡ f)
-    by_best None some e own = cc
-    by_best (Some v) some e own = (
-      subst (λ (p : List ℕ). IsLeaf live height p f) (sym e)
-          (subst (λ (w : ℕ). IsLeaf live height best_path w) (sym own.1) own.0),
-      refl,
-    )
-
 module _ {live : List ℕ → Option ℕ} {width : List ℕ → ℕ} {height : ℕ} (grows : FloorsGrow live width height)
-    {links : List Link} {waiting : List Entry} {best : Option ℕ} {best_path : List ℕ} {c k : ℕ}
-    (search : IsSearch live height links waiting best best_path (λ i. i ≡ c) (floor_in live links c))
+    {most : ℕ} {links : List Link} {waiting : List Entry} {leaves : List Leaf} {c k : ℕ}
+    (search : IsSearch live height most links waiting leaves (λ i. i ≡ c) (floor_in live links c))
     (opening : IsOpening live (length links + 1) (path_in links) (λ i. times i (numbers waiting)) c k) where
   -- past children that are dead
   pub IsOpen-passed : (to : ℕ) → k ≤ to
       → ((j floor : ℕ) → k ≤ j → j < to → live (path_in links c ++ j ∷ []) ≡ Some floor → ⊥) →
-      IsSearch live height links waiting best best_path (λ i. i ≡ c) (floor_in live links c)
+      IsSearch live height most links waiting leaves (λ i. i ≡ c) (floor_in live links c)
       × IsOpening live (length links + 1) (path_in links) (λ i. times i (numbers waiting)) c to
   IsOpen-passed to le dead = (search, IsOpening-passed to le dead opening)
 
+  -- what is kept, where no entry is open
+  met_closed : All (IsMet live height (length links + 1) (path_in links) (λ i. times i (numbers waiting)) (λ _. ⊥)
+      (floor_in live links c)) leaves
+  met_closed i d inside =
+      let h = search.met i d inside in
+      record {
+        within = h.within;
+        is = h.is;
+        leads = h.leads;
+        low = h.low;
+        taken = h.taken;
+        unspared = λ never. never;
+      }
+
   -- all children are met
   pub IsClosed-opened : width (path_in links c) ≤ k → length (path_in links c) < height
-      → IsSearch live height links waiting best best_path (λ _. ⊥) (floor_in live links c)
+      → IsSearch live height most links waiting leaves (λ _. ⊥) (floor_in live links c)
   IsClosed-opened all above = record {
     front = IsFront-opened grows c k search.front opening all above refl;
-    best_leaf = search.best_leaf;
-    best_long = search.best_long;
+    met = met_closed;
+    once = search.once;
     linked = search.linked;
     floors = search.floors;
   }
 
-  -- it is a leaf, and met
-  pub IsClosed-leaf : (best' : Option ℕ) (best_path' : List ℕ) (f : ℕ) → floor_in live links c ≡ f
-      → length (path_in links c) ≡ height → length best_path' ≡ height →
-      best' ≡ Some f → (best_path' ≡ path_in links c) ⊎ (IsSome best × (best_path' ≡ best_path))
-      → Covers best' best_path' (path_in links c) f →
-      ((other : List ℕ) (its : ℕ) → Covers best best_path other its → Covers best' best_path' other its) →
-      IsSearch live height links waiting best' best_path' (λ _. ⊥) (floor_in live links c)
-  IsClosed-leaf best' best_path' f floor long best_long is one covered on = record {
-    front = IsFront-leaf grows c (Covers best' best_path') search.front on long refl
-        (subst (λ (v : ℕ). Covers best' best_path' (path_in links c) v) (sym floor) covered);
-    best_leaf = best_met live height (floor_in live links c) best best' best_path best_path' (path_in links c)
-        search.best_leaf (is ∙ ap Some (sym floor)) one
-        (long, search.front.floors c opening.here);
-    best_long = best_long;
-    linked = search.linked;
-    floors = search.floors;
-  }
+  -- it is a leaf, and taken in
+  module _ {leaves' : List Leaf} {f : ℕ} (floor : floor_in live links c ≡ f) (long : length (path_in links c) ≡ height)
+      (more : TakesIn most leaves leaves' f (path_in links c) c) where
+    own_met : IsMet live height (length links + 1) (path_in links) (λ i. times i (numbers waiting)) (λ _. ⊥)
+        (floor_in live links c) more.leaf
+    own_met = record {
+      within = omega (arith, more.entry_is, opening.here);
+      is = ap (λ (i : ℕ). path_in links i) more.entry_is ∙ sym more.path_is;
+      leads = (
+        ap (λ (p : List ℕ). length p) more.path_is ∙ long,
+        ap live more.path_is ∙ search.front.floors c opening.here ∙ ap Some (floor ∙ sym more.value_is),
+      );
+      low = omega (arith, more.value_is, floor);
+      taken = ap (λ (i : ℕ). times i (numbers waiting)) more.entry_is ∙ opening.taken;
+      unspared = λ never. never;
+    }
+
+    fresh : times c (leaf_numbers leaves) ≡ 0
+    fresh = times_none c (leaf_numbers leaves)
+        (λ some. All_at (λ j. j ≢ c) (leaf_numbers leaves) c
+        (All-map (λ j. j ≢ c) (λ (leaf : Leaf). leaf.1.1) leaves (λ i d inside. (search.met i d inside).unspared)) some
+        refl)
+
+    pub IsClosed-leaf : IsSearch live height most links waiting leaves' (λ _. ⊥) (floor_in live links c)
+    IsClosed-leaf = record {
+      front = IsFront-leaf grows c (Covers most leaves') search.front
+          (taken_keeps search.front.differ more met_closed own_met search.once fresh) long refl
+          (subst (λ (v : ℕ). Covers most leaves' (path_in links c) v) (sym floor)
+          (taken_covers search.front.differ more met_closed own_met search.once fresh));
+      met = taken_met search.front.differ more met_closed own_met search.once fresh;
+      once = taken_once search.front.differ more met_closed own_met search.once fresh;
+      linked = search.linked;
+      floors = search.floors;
+    }
 
   module _ {waiting' : List Entry} {f : ℕ}
       (added : IsPermutation ((record { 0 = f }, length links + 1) ∷ waiting) waiting') where
@@ -142,8 +129,21 @@ module _ {live : List ℕ → Option ℕ} {width : List ℕ → ℕ} {height : �
     floor_stays : floor_in live (links ++ record { parent = c; child = k } ∷ []) c ≡ floor_in live links c
     floor_stays = ap (λ (p : List ℕ). floor_of (live p)) (earlier c opening.here)
 
+    met_later : All (IsMet live height (length links + 1 + 1) (path_in (links ++ record { parent = c; child = k } ∷ []))
+        (λ i. times i (numbers waiting')) (λ i. i ≡ c) (floor_in live links c)) leaves
+    met_later i d inside =
+        let h = search.met i d inside in
+        record {
+          within = omega (arith, h.within);
+          is = earlier _ h.within ∙ h.is;
+          leads = h.leads;
+          low = h.low;
+          taken = old_waits _ (omega (arith, h.within)) ∙ h.taken;
+          unspared = h.unspared;
+        }
+
     IsSearch-add : live (path_in links c ++ k ∷ []) ≡ Some f →
-        IsSearch live height (links ++ record { parent = c; child = k } ∷ []) waiting' best best_path
+        IsSearch live height most (links ++ record { parent = c; child = k } ∷ []) waiting' leaves
         (λ i. i ≡ c) (floor_in live links c)
     IsSearch-add is =
         let link : Link = record { parent = c; child = k } in
@@ -151,14 +151,17 @@ module _ {live : List ℕ → Option ℕ} {width : List ℕ → ℕ} {height : �
           front = subst
               (λ (n : ℕ). IsFront live height (n + 1) (path_in (links ++ link ∷ []))
               (floor_in live (links ++ link ∷ [])) (λ i. times i (numbers waiting')) (λ i. i ≡ c)
-              (Covers best best_path) (floor_in live links c))
+              (Covers most leaves) (floor_in live links c))
               (sym (length_push links link))
               (IsFront-add grows search.front (path_in (links ++ link ∷ []))
               (floor_in live (links ++ link ∷ [])) (λ i. times i (numbers waiting')) c k f opening refl is
               earlier last (λ i within. ap (λ (p : List ℕ). floor_of (live p)) (earlier i within))
               (ap (λ (p : List ℕ). floor_of (live p)) last ∙ ap floor_of is) old_waits new_waits);
-          best_leaf = search.best_leaf;
-          best_long = search.best_long;
+          met = subst
+              (λ (n : ℕ). All (IsMet live height (n + 1) (path_in (links ++ link ∷ []))
+              (λ i. times i (numbers waiting')) (λ i. i ≡ c) (floor_in live links c)) leaves)
+              (sym (length_push links link)) met_later;
+          once = search.once;
           linked = λ j d within. ⊎_elim
               (λ less. subst (λ (x : Link). x.parent ≤ j)
               (sym (get_or_append_left links (link ∷ []) d j less)) (search.linked j d less))
@@ -182,15 +185,15 @@ module _ {live : List ℕ → Option ℕ} {width : List ℕ → ℕ} {height : �
         opening earlier last old_waits)
 
     -- a live child more
-    pub IsOpen-add : (links' : List Link) (best' : Option ℕ) (best_path' : List ℕ)
-        → links' ≡ links ++ record { parent = c; child = k } ∷ [] → best' ≡ best → best_path' ≡ best_path →
+    pub IsOpen-add : (links' : List Link) (most' : ℕ) (leaves' : List Leaf)
+        → links' ≡ links ++ record { parent = c; child = k } ∷ [] → most' ≡ most → leaves' ≡ leaves →
         live (path_in links c ++ k ∷ []) ≡ Some f →
-        IsSearch live height links' waiting' best' best_path' (λ i. i ≡ c) (floor_in live links' c)
+        IsSearch live height most' links' waiting' leaves' (λ i. i ≡ c) (floor_in live links' c)
         × IsOpening live (length links' + 1) (path_in links') (λ i. times i (numbers waiting')) c (k + 1)
-    IsOpen-add links' best' best_path' a b d is =
+    IsOpen-add links' most' leaves' a b d is =
         let link : Link = record { parent = c; child = k } in
         rw (a, b, d) (
-          subst (λ (r : ℕ). IsSearch live height (links ++ link ∷ []) waiting' best best_path (λ i. i ≡ c) r)
+          subst (λ (r : ℕ). IsSearch live height most (links ++ link ∷ []) waiting' leaves (λ i. i ≡ c) r)
               (sym floor_stays) (IsSearch-add is),
           IsOpening-more,
         )
@@ -207,37 +210,13 @@ few_from_dead {live} grows budget dead (x ∷ xs) differ kind =
     let floor = some_of (live x) kind.0.0 in
     absurd (none_from grows [] x floor.0 dead floor.1 (x, refl))
 
-times_empty : (waiting : List Entry) → waiting ≡ [] → (i : ℕ) → 0 < times i (numbers waiting) → ⊥
+pub times_empty : (waiting : List Entry) → waiting ≡ [] → (i : ℕ) → 0 < times i (numbers waiting) → ⊥
 times_empty [] e i some = omega (arith, some)
 times_empty (x ∷ xs) e i some = cc
 
 module _ {live : List ℕ → Option ℕ} {width : List ℕ → ℕ} {height : ℕ} (grows : FloorsGrow live width height)
-    {links : List Link} {waiting : List Entry} {best : Option ℕ} {best_path : List ℕ} {reached : ℕ}
-    (search : IsSearch live height links waiting best best_path (λ _. ⊥) reached) where
-  first_below : (v : ℕ) → best ≡ Some v
-      → ((i : ℕ) → 0 < times i (numbers waiting) → v < floor_in live links i) → IsFirstLeast live height best_path v
-  first_below v is higher =
-      let leaf = rw is at search.best_leaf in
-      record {
-        leaf = leaf.0;
-        least = λ other w its. ⊎_elim
-            (λ covered. let h = rw is at covered in h.0)
-            (λ pending. above pending.entry w pending.open_yet pending.low)
-            (leaf_met grows search.front other w its);
-        first = λ other its before. ⊎_elim
-            (λ covered. let h = rw is at covered in h.1 refl before)
-            (λ pending. strictly pending.entry pending.open_yet pending.low)
-            (leaf_met grows search.front other v its);
-      }
-    where
-      above : (i w : ℕ) → (0 < times i (numbers waiting)) ⊎ ⊥ → floor_in live links i ≤ w → v ≤ w
-      above i w (inl some) low = omega (arith, higher i some, low)
-      above i w (inr never) low = absurd never
-
-      strictly : (i : ℕ) → (0 < times i (numbers waiting)) ⊎ ⊥ → floor_in live links i ≤ v → ⊥
-      strictly i (inl some) low = omega (arith, higher i some, low)
-      strictly i (inr never) low = never
-
+    {most : ℕ} {links : List Link} {waiting : List Entry} {leaves : List Leaf} {reached : ℕ}
+    (search : IsSearch live height most links waiting leaves (λ _. ⊥) reached) where
   few_loaded : (x budget : ℕ) → length links ≤ budget
       → ((i : ℕ) → 0 < times i (numbers waiting) → x < floor_in live links i) → AtMost (IsLoaded live x) budget
   few_loaded x budget room higher = λ paths differ kind.
@@ -250,17 +229,8 @@ module _ {live : List ℕ → Option ℕ} {width : List ℕ → ℕ} {height : �
 
   -- nothing waits
   module _ (empty : waiting ≡ []) where
-    pub first_last : (v : ℕ) → best ≡ Some v → IsFirstLeast live height best_path v
-    first_last v is = first_below v is (λ i some. absurd (times_empty waiting empty i some))
-
     pub few_last : (x budget : ℕ) → length links ≤ budget → AtMost (IsLoaded live x) budget
     few_last x budget room = few_loaded x budget room (λ i some. absurd (times_empty waiting empty i some))
-
-    pub no_leaf : best ≡ None → HasNoLeaf live height
-    no_leaf is = λ other w its. ⊎_elim
-        (λ covered. rw is at covered)
-        (λ pending. ⊎_elim (times_empty waiting empty pending.entry) (λ never. never) pending.open_yet)
-        (leaf_met grows search.front other w its)
 
     pub few_live : (budget : ℕ) → length links ≤ budget → AtMost (IsLiveBelowRoot live) budget
     few_live budget room = λ paths differ kind.
@@ -301,7 +271,7 @@ module _ {live : List ℕ → Option ℕ} {width : List ℕ → ℕ} {height : �
     taken_within = omega (arith, search.front.within c waits)
 
     -- none that waited is lower
-    low : (i : ℕ) → 0 < times i (numbers waiting) → f ≤ floor_in live links i
+    pub low : (i : ℕ) → 0 < times i (numbers waiting) → f ≤ floor_in live links i
     low i some = ⊎_elim
         (λ e. subst (λ (j : ℕ). f ≤ floor_in live links j) (sym e) (omega (arith, floor_is)))
         (λ differ. All_at (λ j. f ≤ floor_in live links j) (numbers waiting') i
@@ -328,64 +298,52 @@ module _ {live : List ℕ → Option ℕ} {width : List ℕ → ℕ} {height : �
               parent.above,
             )
 
-    -- the best leaf is lower
-    pub first_settled : (v : ℕ) → best ≡ Some v → v < f → IsFirstLeast live height best_path v
-    first_settled v is less = first_below v is (λ i some. omega (arith, less, low i some))
-
     pub few_below : (x budget : ℕ) → x < f → length links ≤ budget → AtMost (IsLoaded live x) budget
     few_below x budget less room = few_loaded x budget room (λ i some. omega (arith, less, low i some))
 
-    -- the best leaf is not lower
-    module _ (unsettled : (v : ℕ) → best ≡ Some v → f ≤ v) where
-      up : reached ≤ f
-      up = omega (arith, search.front.high c waits, floor_is)
+    -- what is kept was reached before
+    met_then : All (IsMet live height (length links + 1) (path_in links) (λ i. times i (numbers waiting')) (λ i. i ≡ c)
+        (floor_in live links c)) leaves
+    met_then i d inside =
+        let h = search.met i d inside in
+        record {
+          within = h.within;
+          is = h.is;
+          leads = h.leads;
+          low = omega (arith, h.low, floor_is, search.front.high c waits);
+          taken = others_stay _ (λ e. waited _ e h.taken) ∙ h.taken;
+          unspared = λ e. waited _ e h.taken;
+        }
+      where
+        waited : (j : ℕ) → j ≡ c → times j (numbers waiting) ≡ 0 → ⊥
+        waited j e none = let some = subst (λ (i : ℕ). 0 < times i (numbers waiting)) (sym e) waits in
+            omega (arith, some, none)
 
-      pub best_level : (v : ℕ) → best ≡ Some v → v ≡ f
-      best_level = level_best live height reached f best best_path search.best_leaf up unsettled
+    IsSearch-pop : IsSearch live height most links waiting' leaves (λ i. i ≡ c) (floor_in live links c)
+    IsSearch-pop =
+        let rest = least_number live links f c waiting waiting' search.floors taken least in
+        record {
+          front = IsFront-pop grows (λ i. times i (numbers waiting')) c search.front waits none others_stay
+              (λ j some. omega
+              (arith, floor_is, All_at (λ j. f ≤ floor_in live links j) (numbers waiting') j rest some));
+          met = met_then;
+          once = search.once;
+          linked = search.linked;
+          floors = HaveFloors-rest live links f c waiting waiting' search.floors taken;
+        }
 
-      pub bounds : BoundsLeaves live height f
-      bounds = λ other w its. ⊎_elim
-          (λ covered. by_best other w best unsettled covered)
-          (λ pending. above pending.entry w pending.open_yet pending.low)
-          (leaf_met grows search.front other w its)
-        where
-          by_best : (other : List ℕ) (w : ℕ) (b : Option ℕ) → ((v : ℕ) → b ≡ Some v → f ≤ v)
-              → Covers b best_path other w → f ≤ w
-          by_best other w None h covered = absurd covered
-          by_best other w (Some v) h covered = omega (arith, h v refl, covered.0)
-
-          above : (i w : ℕ) → (0 < times i (numbers waiting)) ⊎ ⊥ → floor_in live links i ≤ w → f ≤ w
-          above i w (inl some) its_low = omega (arith, low i some, its_low)
-          above i w (inr never) its_low = absurd never
-
-      IsSearch-pop : IsSearch live height links waiting' best best_path
-          (λ i. i ≡ c) (floor_in live links c)
-      IsSearch-pop =
-          let rest = least_number live links f c waiting waiting' search.floors taken least in
-          record {
-            front = IsFront-pop grows (λ i. times i (numbers waiting')) c search.front waits none others_stay
-                (λ j some. omega
-                (arith, floor_is, All_at (λ j. f ≤ floor_in live links j) (numbers waiting') j rest some));
-            best_leaf = subst (λ (r : ℕ). IsBestLeaf live height r best best_path) (sym floor_is)
-                (best_reached live height reached f best best_path search.best_leaf up unsettled);
-            best_long = search.best_long;
-            linked = search.linked;
-            floors = HaveFloors-rest live links f c waiting waiting' search.floors taken;
-          }
-
-      -- the entry is open, and none of its children is met
-      pub IsOpen-first :
-          IsSearch live height links waiting' best best_path (λ i. i ≡ c) (floor_in live links c)
-          × IsOpening live (length links + 1) (path_in links) (λ i. times i (numbers waiting')) c 0
-      IsOpen-first =
-          (IsSearch-pop, IsOpening-pop grows search.front (λ i. times i (numbers waiting')) c waits none)
+    -- the entry is open, and none of its children is met
+    pub IsOpen-first :
+        IsSearch live height most links waiting' leaves (λ i. i ≡ c) (floor_in live links c)
+        × IsOpening live (length links + 1) (path_in links) (λ i. times i (numbers waiting')) c 0
+    IsOpen-first =
+        (IsSearch-pop, IsOpening-pop grows search.front (λ i. times i (numbers waiting')) c waits none)
 
 -- the root alone
-IsClosed-root : (live : List ℕ → Option ℕ) (height f : ℕ) (waiting : List Entry) (best_path : List ℕ)
-    → live [] ≡ Some f → length best_path ≡ height →
-    IsPermutation ((record { 0 = f }, 0) ∷ []) waiting
-    → IsSearch live height [] waiting None best_path (λ _. ⊥) f
-IsClosed-root live height f waiting best_path is long added =
+IsClosed-root : (live : List ℕ → Option ℕ) (height most f : ℕ) (waiting : List Entry)
+    → live [] ≡ Some f → IsPermutation ((record { 0 = f }, 0) ∷ []) waiting
+    → IsSearch live height most [] waiting [] (λ _. ⊥) f
+IsClosed-root live height most f waiting is added =
     let moved = numbers-permutation ((record { 0 = f }, 0) ∷ []) waiting added in
     let own : floor_in live [] 0 ≡ f = ap floor_of is in
     let at_root : (i : ℕ) → 0 < times i (numbers waiting) → i ≡ 0 = λ i some. ⊎_elim (λ e. e)
@@ -423,17 +381,16 @@ IsClosed-root live height f waiting best_path is long added =
             inl (subst (λ (j : ℕ). 0 < times j (numbers waiting)) (sym e)
             (omega (arith, times-permutation 0 (0 ∷ []) (numbers waiting) moved, times-same 0 [])));
       };
-      best_leaf = tt;
-      best_long = long;
+      met = All-nil (IsMet live height 1 (path_in []) (λ i. times i (numbers waiting)) (λ _. ⊥) f);
+      once = λ i. omega arith;
       linked = λ k d within. absurd (omega (arith, within));
       floors = HaveFloors-add live [] [] f 0 [] waiting is (λ i within. refl)
           (λ k d inside. absurd (omega (arith, inside))) (λ k d inside. absurd (omega (arith, inside))) added;
     }
 
-pub starts : (live : List ℕ → Option ℕ) (height f : ℕ) (links : List Link) (waiting : List Entry)
-    (best : Option ℕ) (best_path : List ℕ) →
-    live [] ≡ Some f → links ≡ [] → best ≡ None → length best_path ≡ height
+pub starts : (live : List ℕ → Option ℕ) (height most f : ℕ) (links : List Link) (waiting : List Entry)
+    (leaves : List Leaf) → live [] ≡ Some f → links ≡ [] → leaves ≡ []
     → IsPermutation ((record { 0 = f }, 0) ∷ []) waiting →
-    (reached : ℕ) × IsSearch live height links waiting best best_path (λ _. ⊥) reached
-starts live height f links waiting best best_path is a b long added =
-    (f, rw (a, b) (IsClosed-root live height f waiting best_path is long added))
+    (reached : ℕ) × IsSearch live height most links waiting leaves (λ _. ⊥) reached
+starts live height most f links waiting leaves is a b added =
+    (f, rw (a, b) (IsClosed-root live height most f waiting is added))

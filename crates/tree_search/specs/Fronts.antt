@@ -1,10 +1,11 @@
 -- How far a search of the front has come. Lemmas see a front as n entries, of paths P and floors F.
-use Rattle.std.specs.Prelude.{◌≡◌, ℕ, ◌+◌, ◌<◌, ◌≤◌, ◌⊎◌, ◌++◌, [], ◌∷◌, List, Option, Some, None, IsSome, length, cond, ◌==◌, vec_capacity}
+use Rattle.std.specs.Prelude.{◌≡◌, ℕ, ◌+◌, ◌<◌, ◌≤◌, ◌⊎◌, ◌++◌, [], ◌∷◌, List, Option, Some, None, IsSome, All, length, cond, ◌==◌, vec_capacity}
 use Rattle.std.specs.BinaryHeap.{heap_capacity}
-use Rattle.tree_search.specs.Answer.{IsLeaf, IsBefore, Many, IsLoaded}
+use Rattle.tree_search.specs.Answer.{IsLeaf, Many, IsLoaded}
 use Rattle.tree_search.specs.Links.{path_in, IsLinked}
 use Rattle.tree_search.specs.Entries.{Entry, numbers, HaveFloors}
 use Rattle.tree_search.specs.Queues.{entries}
+use Rattle.tree_search.specs.Finds.{Leaf, Covers, kept, leaf_numbers, path_of}
 use Rattle.tree_search.specs.declared.links.Link.{Link}
 use Rattle.tree_search.specs.declared.front.Front.{Front}
 
@@ -12,22 +13,6 @@ use Rattle.tree_search.specs.declared.front.Front.{Front}
 abbrev pub times : ℕ → List ℕ → ℕ
 times i [] = 0
 times i (x ∷ xs) = cond (x == i) (1 + times i xs) (times i xs)
-
--- there is a best leaf, that this one does not beat
-abbrev pub Covers : Option ℕ → List ℕ → List ℕ → ℕ → Type 0
-Covers None best_path path value = ⊥
-Covers (Some best) best_path path value = (best ≤ value) × (best ≡ value → IsBefore path best_path → ⊥)
-
--- what the best leaf of the first front covers, that of the second does too
-abbrev pub KeepsCovered : Front → Front → Type 0
-KeepsCovered old new =
-    (path : List ℕ) (value : ℕ) → Covers old.best old.best_path.items path value
-    → Covers new.best new.best_path.items path value
-
--- the best leaf is one, and its value the floor that is reached
-abbrev pub IsBestLeaf : (List ℕ → Option ℕ) → ℕ → ℕ → Option ℕ → List ℕ → Type 0
-IsBestLeaf live height reached None best_path = Unit {0}
-IsBestLeaf live height reached (Some best) best_path = IsLeaf live height best_path best × (reached ≡ best)
 
 -- an entry whose live children are entries too, and if it is a leaf is covered
 pub record IsDone (live : List ℕ → Option ℕ) (height n : ℕ) (P : ℕ → List ℕ) (F : ℕ → ℕ)
@@ -58,6 +43,16 @@ pub record IsFront (live : List ℕ → Option ℕ) (height n : ℕ) (P : ℕ �
   pub fresh : (i m k : ℕ) → 0 < waits i → m < n → P m ≡ P i ++ k ∷ [] → ⊥
   pub done : (i : ℕ) → i < n → (0 < waits i) ⊎ (Spared i ⊎ IsDone live height n P F Covered reached i)
 
+-- a leaf that is kept: its entry neither waits nor is spared, and its value was reached
+pub record IsMet (live : List ℕ → Option ℕ) (height n : ℕ) (P : ℕ → List ℕ) (waits : ℕ → ℕ) (Spared : ℕ → Type 0)
+    (reached : ℕ) (leaf : Leaf) : Type 0 where
+  pub within : leaf.1.1 < n
+  pub is : P leaf.1.1 ≡ path_of leaf
+  pub leads : IsLeaf live height (path_of leaf) leaf.0
+  pub low : leaf.0 ≤ reached
+  pub taken : waits leaf.1.1 ≡ 0
+  pub unspared : Spared leaf.1.1 → ⊥
+
 -- the entry c, whose children before k are entries, and no others
 pub record IsOpening (live : List ℕ → Option ℕ) (n : ℕ) (P : ℕ → List ℕ) (waits : ℕ → ℕ) (c k : ℕ) : Type 0 where
   pub here : c < n
@@ -82,21 +77,21 @@ IsLoadAbove live front entry budget = Many (IsLoaded live (floor_in live front.l
 abbrev pub next_number : Front → ℕ
 next_number front = length front.links.items + 1
 
--- links, what waits and the best leaf make a front
-pub record IsSearch (live : List ℕ → Option ℕ) (height : ℕ) (links : List Link) (waiting : List Entry)
-    (best : Option ℕ) (best_path : List ℕ) (Spared : ℕ → Type 0) (reached : ℕ) : Type 0 where
+-- links, what waits and the leaves that are kept make a front
+pub record IsSearch (live : List ℕ → Option ℕ) (height most : ℕ) (links : List Link) (waiting : List Entry)
+    (leaves : List Leaf) (Spared : ℕ → Type 0) (reached : ℕ) : Type 0 where
   pub front : IsFront live height (length links + 1) (path_in links) (floor_in live links)
-      (λ i. times i (numbers waiting)) Spared (Covers best best_path) reached
-  pub best_leaf : IsBestLeaf live height reached best best_path
-  pub best_long : length best_path ≡ height
+      (λ i. times i (numbers waiting)) Spared (Covers most leaves) reached
+  pub met : All (IsMet live height (length links + 1) (path_in links) (λ i. times i (numbers waiting)) Spared reached)
+      leaves
+  pub once : (i : ℕ) → times i (leaf_numbers leaves) ≤ 1
   pub linked : IsLinked links
   pub floors : HaveFloors live links waiting
 
 -- a front, of which each entry waits or is done
 abbrev pub IsClosed : (List ℕ → Option ℕ) → ℕ → Front → ℕ → Type 0
 IsClosed live height front reached =
-    IsSearch live height front.links.items (entries front.waiting) front.best front.best_path.items
-    (λ _. ⊥) reached
+    IsSearch live height front.finds.most front.links.items (entries front.waiting) (kept front.finds) (λ _. ⊥) reached
 
 -- a front that has come as far as the floor of an entry of an earlier one, each entry of which
 -- waits or is done
@@ -106,7 +101,7 @@ IsClosedAt live height old entry new = IsClosed live height new (floor_in live o
 -- a front, one entry of which is open: its children before k are entries
 abbrev pub IsOpen : (List ℕ → Option ℕ) → ℕ → Front → ℕ → ℕ → Type 0
 IsOpen live height front entry k =
-    IsSearch live height front.links.items (entries front.waiting) front.best front.best_path.items
+    IsSearch live height front.finds.most front.links.items (entries front.waiting) (kept front.finds)
     (λ i. i ≡ entry) (floor_in live front.links.items entry)
     × IsOpening live (length front.links.items + 1) (path_in front.links.items)
     (λ i. times i (numbers (entries front.waiting))) entry k

@@ -6,5 +6,9 @@ pub mod Links
 pub mod Entries
 pub mod Queues
 pub mod Trails
+pub mod Nth
+pub mod Numbered
+pub mod Finds
 pub mod Fronts
 pub mod Quests
+pub mod NthQuests

@@ -1,21 +1,24 @@
 //! Best first: the node of least floor is opened next.
-ghost use Rattle.std.specs.Prelude.{◌≡◌, ℕ, ◌<◌, ◌≤◌, ◌+◌, ◌^◌, ◌++◌, ◌∷◌, ◌↔◌, ◌⊎◌, [], List, IsSome, Some, length, IfOk, IfSome, IfNone, All, IsPermutation, vec_capacity};
+ghost use Rattle.std.specs.Prelude.{◌≡◌, ℕ, ◌<◌, ◌≤◌, ◌+◌, ◌^◌, ◌++◌, ◌∷◌, ◌↔◌, [], length, IfOk, IsPermutation, vec_capacity};
 ghost use Rattle.std.specs.BinaryHeap.{heap_capacity};
 ghost use Rattle.std.specs.Bool.{OnTrue, OnFalse};
-ghost use Rattle.tree_search.specs.Answer.{IsBefore, IsFirstLeast, HasNoLeaf, BoundsLeaves, Many, AtMost, IsLoaded, IsLiveBelowRoot, AreLowerLoadsWithin, IsOverBudget};
-ghost use Rattle.tree_search.specs.Outcomes.{IfFound, OnNothing, IfSpent, IsSpent};
-ghost use Rattle.tree_search.specs.Links.{path_in, IsLinked};
+ghost use Rattle.tree_search.specs.Answer.{AreLowerLoadsWithin, AtMost, IsLiveBelowRoot, IsLoaded, Many};
+ghost use Rattle.tree_search.specs.Links.{path_in};
 ghost use Rattle.tree_search.specs.Entries.{entry_of};
 ghost use Rattle.tree_search.specs.Queues.{IsQueue, entries};
 ghost use Rattle.tree_search.specs.Trails.{LeadsTo, Leads};
-ghost use Rattle.tree_search.specs.Fronts.{Covers, KeepsCovered, IsLoadAbove, IsClosedAt, next_number, IsOpen, HasRoom, SameTaken};
+ghost use Rattle.tree_search.specs.Nth.{AreFewerBelow, HasOnly, IsNthLeaf, IsOverNth};
+ghost use Rattle.tree_search.specs.Numbered.{IfFound, IfOnly, IfSpent, IsSpent};
+ghost use Rattle.tree_search.specs.Finds.{IsFinds, kept};
+ghost use Rattle.tree_search.specs.Fronts.{IsLoadAbove, IsClosedAt, next_number, IsOpen, HasRoom, SameTaken};
 
+use crate::finds::Finds;
 use crate::links::Link;
-use crate::outcome::Outcome;
+use crate::outcome::Numbered;
 use crate::queue::Queue;
 use crate::space::Space;
 use crate::trail::{Trail, go_to, place, start_trail};
-use fux_pitch::{List, Memory};
+use fux_pitch::Memory;
 use std::alloc::Global;
 
 /// The nodes met so far, as entries. A node is made again from its entry's links.
@@ -25,36 +28,8 @@ pub struct Front {
     links: Vec<Link>,
     /// The entries that are not opened yet.
     waiting: Queue,
-    /// The value of the best leaf met.
-    best: Option<u64>,
-    /// The path to the best leaf, where there is one.
-    best_path: Vec<u16>,
-}
-
-/// Whether a path comes before another.
-fn is_before(path: &[u16], other: &[u16]) -> bool
-    ensures before { OnTrue result (IsBefore path.now other.now) }
-    ensures not_before { OnFalse result (IsBefore path.now other.now → ⊥) }
-{
-    let Some((b, others)) = other.split_first() else {
-        return false;
-    };
-    let Some((a, rest)) = path.split_first() else {
-        return true;
-    };
-    a < b || a == b && is_before(rest, others)
-}
-
-/// Whether a leaf of the best value beats the best leaf, if there is one.
-fn beats(path: &[u16], best: Option<u64>, best_path: &[u16]) -> bool
-    ensures beats { OnTrue result ((value : ℕ) → best ≡ Some value → IsBefore path.now
-        best_path.now) }
-    ensures beats_not { OnFalse result (IsSome best × (IsBefore path.now best_path.now → ⊥)) }
-{
-    match best {
-        None => true,
-        Some(_) => is_before(path, best_path),
-    }
+    /// The leaves that are kept of those that were met.
+    finds: Finds,
 }
 
 // So each unit of the budget takes 24 bytes: 8 for a link, and 16 for an entry that waits.
@@ -75,22 +50,23 @@ fn room_for(alloc: Global, budget: u32) -> Result<(Vec<Link>, Queue), Memory>
     Ok((links, waiting))
 }
 
-/// A front of the root alone, which waits. All its memory is taken here.
-fn start_front(alloc: Global, floor: u64, depth: usize, budget: u32) -> Result<Front, Memory>
+/// A front of the root alone, which waits, and which keeps no more leaves than this. The memory of
+/// what waits is taken here.
+fn start_front(alloc: Global, floor: u64, nth: u32, budget: u32) -> Result<Front, Memory>
     ensures links { IfOk result (λ front. front.links.items ≡ []) }
     ensures waiting { IfOk result (λ front.
         IsPermutation (entry_of floor 0 ∷ []) (entries front.waiting)) }
     ensures queue { IfOk result (λ front. IsQueue front.waiting) }
-    ensures best { IfOk result (λ front. front.best ≡ None) }
-    ensures long { IfOk result (λ front. length front.best_path.items ≡ depth) }
+    ensures most { IfOk result (λ front. front.finds.most ≡ nth) }
+    ensures none { IfOk result (λ front. kept front.finds ≡ []) }
+    ensures finds { IfOk result (λ front. IsFinds front.finds) }
     ensures room { IfOk result (HasRoom budget) }
 {
     let (links, waiting) = room_for(alloc, budget)?;
     let mut front = Front {
         links,
         waiting,
-        best: None,
-        best_path: vec![in alloc; 0u16; depth]?,
+        finds: Finds::new(alloc, nth),
     };
     front.waiting.put(floor, 0);
     Ok(front)
@@ -105,32 +81,12 @@ fn add(front: &mut Front, floor: u64, link: Link, budget: u32)
     ensures waiting { IsPermutation (entry_of floor (next_number front.old)
         ∷ entries front.old.waiting) (entries front.new.waiting) }
     ensures queue { IsQueue front.new.waiting }
-    ensures best { front.new.best ≡ front.old.best }
-    ensures best_path { front.new.best_path ≡ front.old.best_path }
+    ensures finds { front.new.finds ≡ front.old.finds }
     ensures room { HasRoom budget front.new }
 {
     let _ = front.links.push(link);
     let entry = front.links.len() as u32;
     front.waiting.put(floor, entry);
-}
-
-/// Takes a leaf, if it beats the best.
-fn meet(front: &mut Front, path: &[u16], value: u64)
-    requires long { length path.now ≡ length front.old.best_path.items }
-    requires level { (best : ℕ) → front.old.best ≡ Some best → best ≡ value }
-    ensures links { front.new.links ≡ front.old.links }
-    ensures waiting { front.new.waiting ≡ front.old.waiting }
-    ensures long { length front.new.best_path.items ≡ length front.old.best_path.items }
-    ensures best { front.new.best ≡ Some value }
-    ensures one { (front.new.best_path.items ≡ path.now)
-        ⊎ (IsSome front.old.best × (front.new.best_path.items ≡ front.old.best_path.items)) }
-    ensures covers { Covers front.new.best front.new.best_path.items path.now value }
-    ensures keeps { KeepsCovered front.old front.new }
-{
-    if beats(path, front.best, &front.best_path) {
-        front.best = Some(value);
-        front.best_path.copy_from_slice(path);
-    }
 }
 
 /// Meets one child of the open entry, to which the trail leads as far as the level, and goes on to
@@ -163,6 +119,7 @@ fn take_child<S: Space>(
     ensures room { HasRoom budget front.new }
     ensures queue { IsQueue front.new.waiting }
     ensures taken { SameTaken front.old front.new }
+    ensures finds { front.new.finds ≡ front.old.finds }
     ensures spent { OnFalse result (IsLoadAbove (S.live space.now) front.old entry budget) }
 {
     let Some(floor) = space.child_into(&trail.nodes[level], k, &mut trail.spare) else {
@@ -196,6 +153,7 @@ fn open<S: Space>(space: &S, front: &mut Front, trail: &mut Trail<S::Node>, budg
     ensures room { HasRoom budget front.new }
     ensures queue { IsQueue front.new.waiting }
     ensures taken { SameTaken front.old front.new }
+    ensures finds { front.new.finds ≡ front.old.finds }
     ensures spent { OnFalse result (IsLoadAbove (S.live space.now) front.old trail.old.entry
         budget) }
 {
@@ -216,73 +174,56 @@ fn open<S: Space>(space: &S, front: &mut Front, trail: &mut Trail<S::Node>, budg
     true
 }
 
-/// The value of the best leaf, if it is below a floor.
-fn settled(best: Option<u64>, floor: u64) -> Option<u64>
-    ensures settled { IfSome result (λ value. (best ≡ Some value) × (value < floor)) }
-    ensures unsettled { IfNone result ((value : ℕ) → best ≡ Some value → floor ≤ value) }
-{
-    match best {
-        Some(value) if value < floor => Some(value),
-        _ => None,
-    }
-}
+/// The leaf of a number, from 1 on, in order of value and then of path, if a budget is enough for
+/// the load of its value: the live nodes below the root whose parent's floor is at most that. Where
+/// there are fewer leaves the budget has to be enough for all live nodes below the root. Where it
+/// is not, the bound is the least floor whose load is above it. Of the memory only that of the
+/// leaves that are kept, of this number at most, is taken as the walk goes on; the rest is taken
+/// before, 24 bytes for each unit of the budget.
+pub fn search_nth<S: Space>(
+    alloc: Global,
+    space: &S,
+    nth: u32,
+    budget: u32,
+) -> Result<Numbered, Memory>
+    requires { 0 < nth }
+    ensures found { IfOk result (λ outcome. IfFound outcome (IsNthLeaf (S.live space.now) (S.height space.now)
+        nth)) }
+    ensures only { IfOk result (λ outcome. IfOnly outcome (HasOnly (S.live space.now) (S.height space.now)
+        nth)) }
 
-/// The first leaf of least value, if a budget is enough for its load: the live nodes below the root
-/// whose parent's floor is at most that value. Where there is no leaf the budget has to be enough
-/// for all live nodes below the root. Where it is not, the bound is the least floor whose load is
-/// above it. All memory is taken before the walk begins, 24 bytes for each unit of the budget.
-pub fn search_front<S: Space>(alloc: Global, space: &S, budget: u32) -> Result<Outcome, Memory>
-    ensures found
-        { IfOk result (λ outcome. IfFound outcome (IsFirstLeast (S.live space.now)
-        (S.height space.now))) }
-    ensures nothing
-        { IfOk result
-        (λ outcome. OnNothing outcome (HasNoLeaf (S.live space.now) (S.height space.now))) }
-
-    // The budget is spent exactly where the load of the least value, or of all where there is no
-    // leaf, is above it.
-    ensures over { IfOk result (λ outcome. IsSpent outcome ↔ IsOverBudget (S.live space.now)
-        (S.height space.now) budget) }
+    // The budget is spent exactly where the load of the leaf's value, or of all where there are
+    // fewer leaves, is above it.
+    ensures over { IfOk result (λ outcome. IsSpent outcome ↔ IsOverNth (S.live space.now)
+        (S.height space.now) nth budget) }
     ensures found_load { IfOk result (λ outcome. IfFound outcome (λ _ value.
         AtMost (IsLoaded (S.live space.now) value) budget)) }
-    ensures nothing_load
-        { IfOk result (λ outcome. OnNothing outcome (AtMost (IsLiveBelowRoot (S.live space.now))
+    ensures only_load { IfOk result (λ outcome. IfOnly outcome (λ _. AtMost (IsLiveBelowRoot (S.live space.now))
         budget)) }
 
-    // The bound is the least floor whose load is above the budget, and no leaf's value is lower.
+    // The bound is the least floor whose load is above the budget, and fewer leaves are below it.
     ensures spent { IfOk result (λ outcome. IfSpent outcome (λ bound.
         Many (IsLoaded (S.live space.now) bound) (budget + 1))) }
-    ensures least
-        { IfOk result (λ outcome. IfSpent outcome (AreLowerLoadsWithin (S.live space.now) budget)) }
-    ensures bound
-        { IfOk result (λ outcome. IfSpent outcome (BoundsLeaves (S.live space.now)
-        (S.height space.now))) }
+    ensures least { IfOk result (λ outcome. IfSpent outcome (AreLowerLoadsWithin (S.live space.now) budget)) }
+    ensures bound { IfOk result (λ outcome. IfSpent outcome (AreFewerBelow (S.live space.now)
+        (S.height space.now) nth)) }
 {
     let depth = space.depth();
     let Some((root, floor)) = space.root() else {
-        return Ok(Outcome::Nothing);
+        return Ok(Numbered::Only { count: 0 });
     };
-    let mut front = start_front(alloc, floor, depth, budget)?;
+    let mut front = start_front(alloc, floor, nth, budget)?;
     let mut trail = start_trail(space, alloc, root)?;
     'pops: while let Some((floor, entry)) = front.waiting.take() {
-        if let Some(value) = settled(front.best, floor) {
-            return Ok(Outcome::Found {
-                path: List::new(front.best_path),
-                value,
-            });
+        if front.finds.are_lower(floor) {
+            return Ok(front.finds.ended());
         }
         go_to(space, &front.links, &mut trail, entry);
         if trail.level == depth {
-            meet(&mut front, &trail.path, floor);
+            front.finds.put(alloc, &trail.path, floor, entry)?;
         } else if !open(space, &mut front, &mut trail, budget) {
-            return Ok(Outcome::Spent { bound: floor });
+            return Ok(Numbered::Spent { bound: floor });
         }
     }
-    match front.best {
-        None => Ok(Outcome::Nothing),
-        Some(value) => Ok(Outcome::Found {
-            path: List::new(front.best_path),
-            value,
-        }),
-    }
+    Ok(front.finds.ended())
 }

@@ -3,6 +3,8 @@
 
 mod both;
 mod depth;
+mod finds;
+mod first;
 mod front;
 mod links;
 mod outcome;
@@ -13,7 +15,8 @@ mod trail;
 
 pub use both::outcomes_agree;
 pub use depth::search_depth;
-pub use front::search_front;
-pub use outcome::Outcome;
-pub use quest::{QuestSpace, search_quest};
+pub use first::search_front;
+pub use front::search_nth;
+pub use outcome::{Numbered, Outcome};
+pub use quest::{QuestSpace, search_nth_quest, search_quest};
 pub use space::Space;

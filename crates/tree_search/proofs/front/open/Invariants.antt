@@ -19,6 +19,7 @@ invariant-loop-from g l =
       room : HasRoom l.budget l.front;
       queue : IsQueue l.front.waiting;
       taken : SameTaken l.initial.front l.front;
+      same_finds : l.front.finds ≡ l.initial.front.finds;
     }
 
 abbrev pub decreases-loop-from : goal.decreases-loop-from

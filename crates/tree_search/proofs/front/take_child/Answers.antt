@@ -1,6 +1,8 @@
-use Rattle.std.proofs.Common.{ℕ, List, Vec, Global, length, refl, ap, ◌∙◌, arith}
+use Rattle.std.proofs.Common.{List, length, refl, ap, ◌∙◌, arith}
 use Rattle.std.proofs.lemmas.List.{length_push}
 use Rattle.std.proofs.lemmas.List.Sorted.{length_permutation}
+use Rattle.tree_search.specs.Finds.{kept}
+use Rattle.tree_search.specs.declared.finds.Finds.{Finds}
 use Rattle.tree_search.specs.declared.links.Link.{Link}
 use Rattle.tree_search.proofs.Loads.{many_loaded}
 use Rattle.tree_search.proofs.Trails.{node_of, trail_parent, trail_child}
@@ -18,7 +20,8 @@ pub returns-clause-open : goal.returns-clause-open
 returns-clause-open g c =
     let more = c.add.ensures in
     IsOpen-add (g.met.S.Space.floors_grow c.args.space.now) c.requires.open.0 c.requires.open.1
-    more.waiting _ _ _ more.links more.best (ap (λ (v : Vec ℕ Global). v.items) more.best_path)
+    more.waiting _ _ _ more.links (ap (λ (finds : Finds). finds.most) more.finds)
+    (ap (λ (finds : Finds). kept finds) more.finds)
     (c.in-Some.ensures _ (node_of c.requires.parent c.index.result.now c.index.ensures)).1
 
 pub returns-clause-path : goal.returns-clause-path

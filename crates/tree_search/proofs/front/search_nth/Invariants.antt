@@ -1,8 +1,9 @@
-use Rattle.std.proofs.Common.{ℕ, ◌+◌, ◌-◌, length}
+use Rattle.std.proofs.Common.{◌≡◌, ℕ, ◌+◌, ◌-◌, length}
 use Rattle.tree_search.specs.Trails.{IsTrailTo}
 use Rattle.tree_search.specs.Fronts.{IsClosed, HasRoom}
+use Rattle.tree_search.specs.Finds.{IsFinds}
 use Rattle.tree_search.specs.Queues.{IsQueue, entries}
-use Rattle.tree_search.proofs.front.search_front.Given as goal
+use Rattle.tree_search.proofs.front.search_nth.Given as goal
 
 abbrev pub invariant-pops : goal.invariant-pops
 invariant-pops g l =
@@ -13,6 +14,8 @@ invariant-pops g l =
           l.trail.nodes.items l.trail.entries.items l.trail.level l.trail.entry;
       room : HasRoom l.budget l.front;
       queue : IsQueue l.front.waiting;
+      finds : IsFinds l.front.finds;
+      most : l.front.finds.most ≡ l.nth;
     }
 
 abbrev pub decreases-pops : goal.decreases-pops
