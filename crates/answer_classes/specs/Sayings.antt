@@ -1,0 +1,74 @@
+-- What is said of a file of a class: by a lesson, or by itself.
+use Rattle.std.specs.Prelude.{◌≡◌, ℕ, false, List, Option, Some, None}
+use Rattle.class_marker.specs.declared.marking.MarkLines.{MarkLines}
+use Rattle.class_marker.specs.declared.one.Marking.TheVariants as marking
+use Rattle.class_marker.specs.declared.one.Text.{Text}
+use Rattle.class_marker.specs.declared.unmarked.Unmarked.TheVariants as unmarked
+use Rattle.class_marker.specs.Markings.{IsContent, IsMarking, IsTheText, MarksText}
+use Rattle.fux_grid.specs.declared.exercise.Exercise.{Exercise}
+use Rattle.fux_grid.specs.Grid.{Grid}
+use Rattle.fux_text.specs.Texts.{HasFault}
+use Rattle.lesson_answers.specs.declared.answer.AnswerLines.{AnswerLines}
+use Rattle.lesson_answers.specs.Answers.{TellsAnswer}
+use Rattle.answer_classes.specs.declared.said.Said.{Said}
+use Rattle.answer_classes.specs.declared.said.Said.TheVariants.{Told, Refused, Unread}
+
+-- ---- by itself
+
+-- these lines are those that `mark` writes of a text, of which nothing differs
+pub record TellsAlone (bytes : List ℕ) (lines : AnswerLines) : Type 0 where
+  pub marks : MarkLines
+  pub told : MarksText bytes (Some marks)
+  pub has_mark : lines.has_mark ≡ marks.has_mark
+  pub differs : lines.differs ≡ false
+  pub text : lines.text ≡ marks.text
+
+-- this is said of a text by itself
+abbrev pub IsSaidAlone : List ℕ → Said → Type 0
+IsSaidAlone bytes (Told lines) = TellsAlone bytes lines
+IsSaidAlone bytes (Refused why) = IsMarking bytes (marking.Refused why)
+IsSaidAlone bytes Unread = ⊥
+
+-- ---- by a lesson
+
+-- these lines tell of an answer what differs from the lesson, and its marks by that
+pub record TellsSetting (lesson answer : Exercise) (lines : AnswerLines) : Type 0 where
+  pub score : Grid
+  pub given : answer.setting ≡ Some score
+  pub told : TellsAnswer lesson answer score lines
+
+-- this is said of an answer by a lesson
+abbrev pub SaysExercise : Exercise → Exercise → Said → Type 0
+SaysExercise lesson answer (Told lines) = TellsSetting lesson answer lines
+SaysExercise lesson answer (Refused (unmarked.Text kind line column)) = ⊥
+SaysExercise lesson answer (Refused unmarked.NoSetting) = answer.setting ≡ None
+SaysExercise lesson answer Unread = ⊥
+
+-- this is said of the answer whose text these bytes are
+pub record SaysTextOf (lesson : Exercise) (bytes : List ℕ) (said : Said) : Type 0 where
+  pub answer : Exercise
+  pub text : IsTheText bytes answer
+  pub told : SaysExercise lesson answer said
+
+-- this is said of a text by a lesson
+abbrev pub IsSaidBy : Exercise → List ℕ → Said → Type 0
+IsSaidBy lesson bytes (Told lines) = SaysTextOf lesson bytes (Told lines)
+IsSaidBy lesson bytes (Refused (unmarked.Text kind line column)) = HasFault bytes kind line column
+IsSaidBy lesson bytes (Refused unmarked.NoSetting) = SaysTextOf lesson bytes (Refused unmarked.NoSetting)
+IsSaidBy lesson bytes Unread = ⊥
+
+-- ---- both
+
+-- this is said of a text, by a lesson where there is one
+abbrev pub IsSaid : Option Exercise → List ℕ → Said → Type 0
+IsSaid None bytes said = IsSaidAlone bytes said
+IsSaid (Some lesson) bytes said = IsSaidBy lesson bytes said
+
+-- this is said of each text of which no more than 65,536 bytes are read, and of which this was read
+abbrev pub IsSaidOfText : Option Exercise → Text → Said → Type 0
+IsSaidOfText lesson text said = (bytes : List ℕ) → IsContent 65536 text bytes → IsSaid lesson bytes said
+
+-- and this where it could not be read
+abbrev pub IsSaidOf : Option Exercise → Option Text → Said → Type 0
+IsSaidOf lesson None said = said ≡ Unread
+IsSaidOf lesson (Some text) said = IsSaidOfText lesson text said
