@@ -16,9 +16,11 @@ What is asked:
 - docs/gate.md has a row for each crate, and says why one has no wrong bodies;
 - docs/proved.md has a section for each crate, and the list of crates by floors has each;
 - docs/definitions.md marks the definitions that `run` reaches;
-- docs/rules.md has each rule in the sentence that the program tells of it.
+- docs/rules.md has each rule in the sentence that the program tells of it;
+- README.md shows a mark explained as a stored run of the same file has it.
 """
 import glob
+import json
 import os
 import re
 import sys
@@ -275,6 +277,20 @@ def sentences_of_rules():
     return [f"docs/rules.md: not what the program says of a rule: {it}" for it in over]
 
 
+def mark_on_the_first_page():
+    """The mark that README.md shows is what a stored run writes of the file that it names."""
+    page = text_of("README.md")
+    found = re.search(r"`\./fux explain (\S+)` tells.*?```\n(.*?)```", page, re.S)
+    if not found:
+        return ["README.md: no mark explained"]
+    path, shown = found[1], found[2]
+    quoted = {it: json.dumps(text_of(it) if it == path else shown) for it in (path, "shown")}
+    for run in text_of("crates/stored_runs/stdin").split("\n\n"):
+        if '\nwords "explain" "F"\n' in run and f'file "F" {quoted[path]}\n' in run:
+            return [] if f'out {quoted["shown"][:-1]}' in run else ["README.md: not what is written of the mark"]
+    return [f"README.md: no stored run explains {path}"]
+
+
 def put(name, page):
     with open(os.path.join(TOP, name), "w", encoding="utf-8") as it:
         it.write(page)
@@ -302,6 +318,7 @@ def main():
             told += unknown_words(name, known, names)
     told += files_of_a_rule(names) + crates_of_gate() + crates_of_proved()
     told += crates_by_floor() + marks() + sentences_of_rules()
+    told += mark_on_the_first_page()
     for line in told:
         print(f"docs/check.py: {line}")
     return 1 if told else 0
