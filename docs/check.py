@@ -18,6 +18,7 @@ What is asked:
 - docs/definitions.md marks the definitions that `run` reaches;
 - docs/rules.md has each rule in the sentence that the program tells of it;
 - README.md shows a mark explained as a stored run of the same file has it.
+- each picture in docs/pictures/ is an answer of the runs that the gate tries the program against.
 """
 import glob
 import json
@@ -291,6 +292,13 @@ def mark_on_the_first_page():
     return [f"README.md: no stored run explains {path}"]
 
 
+def pictures(names):
+    runs = text_of("crates/stored_runs/stdin")
+    shown = [name for name in names if name.startswith("docs/pictures/")]
+    written = {name: text_of(name).replace("\\", "\\\\").replace('"', '\\"').replace("\n", "\\n") for name in shown}
+    return [f"{name} is no answer of a stored run" for name in shown if f'\nout "{written[name]}"\n' not in runs]
+
+
 def put(name, page):
     with open(os.path.join(TOP, name), "w", encoding="utf-8") as it:
         it.write(page)
@@ -317,7 +325,7 @@ def main():
         if name != "CHANGES.md":
             told += unknown_words(name, known, names)
     told += files_of_a_rule(names) + crates_of_gate() + crates_of_proved()
-    told += crates_by_floor() + marks() + sentences_of_rules()
+    told += crates_by_floor() + marks() + sentences_of_rules() + pictures(names)
     told += mark_on_the_first_page()
     for line in told:
         print(f"docs/check.py: {line}")
