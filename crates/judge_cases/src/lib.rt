@@ -1,7 +1,7 @@
-//! Worked cases of the rules, tolls and gauges, of marks and of the judge, with answers that were
-//! worked out by hand, and settings that are judged column by column, beside a plain reading of
-//! every rule and toll. They stand in a crate above those that they try, so that what carries the
-//! proofs is proved once.
+//! Worked cases of the rules, tolls and gauges, of marks, of the judge and of what is open behind a
+//! column, with answers that were worked out by hand, and settings that are judged column by
+//! column, beside a plain reading of every rule and toll. They stand in a crate above those that
+//! they try, so that what carries the proofs is proved once.
 #![tactic(auto)]
 
 #[cfg(test)]
@@ -20,6 +20,8 @@ mod mixed;
 mod mixed_rows;
 #[cfg(test)]
 mod mixed_tables;
+#[cfg(test)]
+mod open_parts;
 #[cfg(test)]
 mod parts;
 #[cfg(test)]

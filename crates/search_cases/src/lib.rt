@@ -10,8 +10,6 @@ mod canons_table;
 #[cfg(test)]
 mod cantus;
 #[cfg(test)]
-mod cantus_certificates;
-#[cfg(test)]
 mod cantus_table;
 #[cfg(test)]
 mod chains;

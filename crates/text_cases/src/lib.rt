@@ -1,5 +1,7 @@
-//! Note texts with what reading answers of each, other texts and MIDI files at the edges of what is
-//! read, and those that are written.
+//! Worked values of pitches, columns and exercises, of shelves and sinks; note texts with what
+//! reading answers of each, other texts and MIDI files at the edges of what is read, and those that
+//! are written. They stand above the crates that they try, so that what carries the proofs is proved
+//! once.
 #![tactic(auto)]
 
 #[cfg(test)]
@@ -8,6 +10,10 @@ mod agree;
 mod cases;
 #[cfg(test)]
 mod claims;
+#[cfg(test)]
+mod documents;
+#[cfg(test)]
+mod documents_table;
 #[cfg(test)]
 mod drills;
 #[cfg(test)]
@@ -19,8 +25,12 @@ mod midi_kinds;
 #[cfg(test)]
 mod prints;
 #[cfg(test)]
+mod readers;
+#[cfg(test)]
 mod sheets;
 #[cfg(test)]
 mod tests;
+#[cfg(test)]
+mod values;
 #[cfg(test)]
 mod writing;

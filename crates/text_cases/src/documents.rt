@@ -1,6 +1,8 @@
 //! Documents, against those that another program wrote.
 
-use crate::documents::{BARE, BARE_SHEET, FLORID, FLORID_MARKED, FLORID_SHEET, THREE, THREE_SHEET};
+use crate::documents_table::{
+    BARE, BARE_SHEET, FLORID, FLORID_MARKED, FLORID_SHEET, THREE, THREE_SHEET,
+};
 use fux_grid::VoiceSet;
 use fux_text::{TextFault, read};
 use score_xml::score_xml;

@@ -2,8 +2,8 @@
 
 ghost use Rattle.std.specs.Prelude.{◌≡◌, ◌≤◌, ◌<◌, length};
 
-use crate::told::Told;
-use crate::{cadences, dissonances, parallels, runs, shapes, suspensions, turnings};
+use crate::open_parts::told::Told;
+use crate::open_parts::{cadences, dissonances, parallels, runs, shapes, suspensions, turnings};
 use fux_grid::{Exercise, Score, mixed_as};
 use open_ends::{
     Both, Keeps, OpenCadences, OpenLigature, OpenParallels, OpenPassing, OpenRuns, OpenShapes,
