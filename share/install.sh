@@ -35,6 +35,9 @@ put_below() {
     for file in "$top"/docs/*.md; do
         put "$file" "$1/share/doc/fux/docs" 644
     done
+    for file in "$top"/docs/pictures/*.svg; do
+        put "$file" "$1/share/doc/fux/docs/pictures" 644
+    done
     put "$top/bench/README.md" "$1/share/doc/fux/bench" 644
     for file in "$top"/examples/* "$top"/examples/*/*; do
         [ -d "$file" ] && continue
