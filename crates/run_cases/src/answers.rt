@@ -1,7 +1,8 @@
 //! What comes of a run, as one text.
 
+use crate::shelf::CaseShelf;
 use crate::words::words_of;
-use fux_port::{MemSink, Shelf};
+use fux_port::MemSink;
 use fux_run::run;
 use std::alloc::Global;
 use std::process::Abort;
@@ -15,11 +16,11 @@ pub const EXERCISE: &str =
 
 /// The status of a run over the files of a shelf, a space, and all that these sinks have taken by
 /// then.
-pub fn said_into<F: Shelf, R: Threads + Sync>(
+pub fn said_into<R: Threads + Sync>(
     rt: &R,
     alloc: Global,
     line: &str,
-    shelf: &mut F,
+    shelf: &mut CaseShelf,
     out: &mut MemSink,
     err: &mut MemSink,
 ) -> Result<String, Fail> {
@@ -31,11 +32,11 @@ pub fn said_into<F: Shelf, R: Threads + Sync>(
 }
 
 /// The same, where this sink is standard output, and standard error takes all that comes.
-pub fn said<F: Shelf, R: Threads + Sync>(
+pub fn said<R: Threads + Sync>(
     rt: &R,
     alloc: Global,
     line: &str,
-    shelf: &mut F,
+    shelf: &mut CaseShelf,
     mut out: MemSink,
 ) -> Result<String, Fail> {
     let mut err = MemSink::new(alloc, 1000, 1000, &[])?;

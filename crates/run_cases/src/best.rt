@@ -1,6 +1,7 @@
 //! What `best` says of an exercise of the fifth species, which takes longer than a stored run may.
 
 use crate::answers::{agree, said};
+use crate::shelf::CaseShelf;
 use fux_port::{MemShelf, MemSink};
 use std::test::Fail;
 
@@ -22,8 +23,9 @@ const RUNS: [(&str, &str); 2] = [
 fn best_answers_on_the_fifth_species(rt: HostRuntime) -> Result<(), Fail> {
     let alloc = rt.alloc();
     for (line, wanted) in &RUNS {
-        let mut shelf = MemShelf::new(alloc, &[])?;
-        shelf.put("A", FIFTH.as_bytes())?;
+        let mut files = MemShelf::new(alloc, &[])?;
+        files.put("A", FIFTH.as_bytes())?;
+        let mut shelf = CaseShelf::of(files);
         let out = MemSink::new(alloc, 1000, 1000, &[])?;
         let got = said(&rt, alloc, line, &mut shelf, out)?;
         agree(&rt, got.as_str(), wanted);

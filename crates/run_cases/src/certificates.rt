@@ -3,6 +3,7 @@
 ghost use Rattle.std.specs.Prelude.{◌≤◌};
 
 use crate::answers::{EXERCISE, agree, said};
+use crate::shelf::CaseShelf;
 use fux_port::{MemShelf, MemSink};
 use std::alloc::{AllocError, Global};
 use std::test::Fail;
@@ -49,9 +50,10 @@ fn said_of<R: Threads + Sync>(
 ) -> Result<String, Fail>
     requires { 1 ≤ piece }
 {
-    let mut shelf = MemShelf::with_piece(alloc, piece, &[failing])?;
-    shelf.put("E", files.0.as_bytes())?;
-    shelf.put("C", files.1.as_bytes())?;
+    let mut memory = MemShelf::with_piece(alloc, piece, &[failing])?;
+    memory.put("E", files.0.as_bytes())?;
+    memory.put("C", files.1.as_bytes())?;
+    let mut shelf = CaseShelf::of(memory);
     let out = MemSink::new(alloc, 1_000_000, 1_000_000, &[])?;
     said(rt, alloc, line, &mut shelf, out)
 }

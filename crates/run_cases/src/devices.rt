@@ -1,10 +1,8 @@
 //! Devices that fail, and files that are no text.
 
-ghost use Rattle.std.specs.Prelude.{◌≡◌, [], Some, IsSome};
-ghost use Rattle.fux_port.specs.MemShelf.{file_at};
-
 use crate::answers::{EXERCISE, agree, said, said_into};
-use fux_port::{Failed, MemShelf, MemSink, Shelf};
+use crate::shelf::CaseShelf;
+use fux_port::{MemShelf, MemSink};
 use std::alloc::Global;
 use std::test::Fail;
 
@@ -46,43 +44,15 @@ const RUNS: [(&str, u64, &str); 4] = [
     ),
 ];
 
-/// Files in memory. It tells of which one a read failed first, by the first byte of its name.
-#[derive(Drop)]
-struct Watched {
-    shelf: MemShelf,
-    failed: Option<u8>,
-}
-
-impl Shelf for Watched {
-    ghost files = { λ watched. Some (file_at watched.shelf.files) };
-
-    ghost faults = { λ watched. watched.shelf.faults };
-
-    ghost given = { λ watched. watched.shelf.given };
-
-    ghost serves = { λ watched name _. (watched.shelf.fail_at ≡ []) × IsSome (file_at watched.shelf.files name) };
-
-    fn read_at(&mut self, name: &str, offset: u64, buf: &mut [u8]) -> Result<usize, Failed> {
-        let read = self.shelf.read_at(name, offset, buf);
-        if read.is_err() && self.failed.is_none() {
-            self.failed = name.bytes().next();
-        }
-        read
-    }
-}
-
 /// The files of the runs, in pieces of 7 bytes. The read of a number fails.
-fn files_of_runs(alloc: Global, failing: u64) -> Result<Watched, Fail> {
-    let mut shelf = MemShelf::with_piece(alloc, 7, &[failing])?;
-    shelf.put("A", EXERCISE.as_bytes())?;
-    shelf.put("S", SHEET.as_bytes())?;
+fn files_of_runs(alloc: Global, failing: u64) -> Result<CaseShelf, Fail> {
+    let mut files = MemShelf::with_piece(alloc, 7, &[failing])?;
+    files.put("A", EXERCISE.as_bytes())?;
+    files.put("S", SHEET.as_bytes())?;
     let (_, certificate) = CERTIFIED.split_once(' ').ok_or("no status")?;
-    shelf.put("C", certificate.as_bytes())?;
-    shelf.put("M", MIDI)?;
-    Ok(Watched {
-        shelf,
-        failed: None,
-    })
+    files.put("C", certificate.as_bytes())?;
+    files.put("M", MIDI)?;
+    Ok(CaseShelf::of(files))
 }
 
 #[test]
@@ -140,9 +110,10 @@ fn each_write_that_fails_leaves_a_front(rt: HostRuntime) -> Result<(), Fail> {
 #[test]
 fn a_failed_device_shows_in_the_status_or_not(rt: HostRuntime) -> Result<(), Fail> {
     let alloc = rt.alloc();
-    let mut shelf = MemShelf::new(alloc, &[4])?;
-    shelf.put("A", EXERCISE.as_bytes())?;
-    shelf.put("bytes", b"\xff\xfe")?;
+    let mut files = MemShelf::new(alloc, &[4])?;
+    files.put("A", EXERCISE.as_bytes())?;
+    files.put("bytes", b"\xff\xfe")?;
+    let mut shelf = CaseShelf::of(files);
     let mut out = MemSink::new(alloc, 1000, 16, &[2])?;
     let mut err = MemSink::new(alloc, 1000, 16, &[7])?;
     for (line, wanted) in [
@@ -167,8 +138,9 @@ fn a_midi_file_that_is_cut_short_is_refused_at_its_end(rt: HostRuntime) -> Resul
     let alloc = rt.alloc();
     let (line, _, _) = &RUNS[3];
     for length in 0..MIDI.len() {
-        let mut shelf = MemShelf::new(alloc, &[])?;
-        shelf.put("M", &MIDI[..length])?;
+        let mut files = MemShelf::new(alloc, &[])?;
+        files.put("M", &MIDI[..length])?;
+        let mut shelf = CaseShelf::of(files);
         let out = MemSink::new(alloc, 1000, 1000, &[])?;
         let got = said(&rt, alloc, line, &mut shelf, out)?;
         let wanted = if length < 4 {

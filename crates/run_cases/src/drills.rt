@@ -1,6 +1,7 @@
 //! A drill is the same each time, and composes what its definition says, by sharper floors too.
 
 use crate::answers::{agree, said};
+use crate::shelf::CaseShelf;
 use fux_port::{MemShelf, MemSink};
 use std::alloc::Global;
 use std::test::Fail;
@@ -11,11 +12,12 @@ const CANTUS: &str = "D4 F4 D4 F4 D4 E4 F4 G4 A4 F4 E4 F4 G4 A4 F4 D4 F4 E4 D4 E
 
 /// What a command says of the exercise of drill 1, which is the file `E`.
 fn said_of<R: Threads + Sync>(rt: &R, alloc: Global, line: &str) -> Result<String, Fail> {
-    let mut shelf = MemShelf::new(alloc, &[])?;
+    let mut files = MemShelf::new(alloc, &[])?;
     let text = format!(in alloc;
         "fux 1\nmode dorian\nvoices 2\nbars 24\nspecies 1 voice 1\ncantus 0 {CANTUS}\nrange 1 F4 F5\n"
     )?;
-    shelf.put("E", text.as_str().as_bytes())?;
+    files.put("E", text.as_str().as_bytes())?;
+    let mut shelf = CaseShelf::of(files);
     let out = MemSink::new(alloc, 1000, 1000, &[])?;
     said(rt, alloc, line, &mut shelf, out)
 }

@@ -17,4 +17,6 @@ mod drills;
 #[cfg(test)]
 mod long_files;
 #[cfg(test)]
+mod shelf;
+#[cfg(test)]
 mod words;
