@@ -27,7 +27,7 @@ take-columns (bar ∷ bars) (suc n) within =
     ∙ take-append-add (columns_of_bar bar) (columns_of bars) (8 * n)
     ∙ ap (λ more. columns_of_bar bar ++ more) (take-columns bars n (omega (arith, within)))
 
-reverse-columns : (bars : List (List Cell)) → reverse (columns_of bars) ≡ held_columns (reverse bars)
+pub reverse-columns : (bars : List (List Cell)) → reverse (columns_of bars) ≡ held_columns (reverse bars)
 reverse-columns [] = refl
 reverse-columns (bar ∷ bars) =
     reverse-append (columns_of_bar bar) (columns_of bars)

@@ -38,7 +38,7 @@ or_none : (b : Bool) → (b || false) ≡ b
 or_none true = refl
 or_none false = refl
 
-and_none : (b : Bool) → (b && false) ≡ false
+pub and_none : (b : Bool) → (b && false) ≡ false
 and_none true = refl
 and_none false = refl
 
@@ -97,7 +97,7 @@ first_slot f others =
 
 -- ---- nothing is broken where nothing starts
 
-no_move : (c : Cell) (previous : Option Pitch) → move_from previous (goes_on c) ≡ None
+pub no_move : (c : Cell) (previous : Option Pitch) → move_from previous (goes_on c) ≡ None
 no_move Rest previous = refl
 no_move (Hold p) previous = refl
 no_move (Start p) previous = refl
@@ -106,13 +106,13 @@ no_second : (test : Interval → Interval → Bool) (first : Option Interval) �
 no_second test None = refl
 no_second test (Some i) = refl
 
-moves_none : (test : Interval → Interval → Bool) (before last : Option Pitch) (c : Cell)
+pub moves_none : (test : Interval → Interval → Bool) (before last : Option Pitch) (c : Cell)
     → on_moves test before last (goes_on c) ≡ false
 moves_none test before last Rest = no_second test (interval_of_pitches before last)
 moves_none test before last (Hold p) = no_second test (interval_of_pitches before last)
 moves_none test before last (Start p) = no_second test (interval_of_pitches before last)
 
-and_left : (a b : Bool) → a ≡ false → (a && b) ≡ false
+pub and_left : (a b : Bool) → a ≡ false → (a && b) ≡ false
 and_left a b none = ap (λ x. x && b) none
 
 quiet_six : (ps : List Pitch) (c : Cell) → window_rule 6 ps (goes_on c) ≡ false
@@ -219,14 +219,14 @@ or_split f g [] = refl
 or_split f g (x ∷ xs) =
     ap (λ b. (f x || g x) || b) (or_split f g xs) ∙ or_four (f x) (g x) (list_any f xs) (list_any g xs)
 
-within_bar : (n slot : ℕ) → 0 < slot → slot < 8 → begins_bar (8 * n + slot) ≡ false
+pub within_bar : (n slot : ℕ) → 0 < slot → slot < 8 → begins_bar (8 * n + slot) ≡ false
 within_bar n slot late low = ne_eqb (slot_of (8 * n + slot)) 0 (λ e. omega (arith, e, late, low))
 
-at_bar : (n : ℕ) → begins_bar (8 * n) ≡ true
+pub at_bar : (n : ℕ) → begins_bar (8 * n) ≡ true
 at_bar n = eq-eqb (slot_of (8 * n)) 0 (omega arith)
 
 -- no voice moves where nothing starts
-still : (before now : List Cell) (v w : ℕ) → both_move before (map goes_on now) v w ≡ false
+pub still : (before now : List Cell) (v w : ℕ) → both_move before (map goes_on now) v w ≡ false
 still before now v w = and_left _ _ (and_left _ _ (starts-held now v))
 
 module _ (canon : Canon) (bars : List (List Cell)) (n : ℕ) (within : n < length bars) where
@@ -322,12 +322,12 @@ module _ (canon : Canon) (bars : List (List Cell)) (n : ℕ) (within : n < lengt
       ∙ both_sets canon (test (8 * n) (held_columns behind) now)
 
   -- the bar's number
-  numbered : bar_of (8 * n) ≡ length behind + 1
+  pub numbered : bar_of (8 * n) ≡ length behind + 1
   numbered =
       let size : length behind ≡ n = length-reverse (take n bars) ∙ length-take-le n bars (omega (arith, within)) in
       omega (arith, size)
 
-  is_inner_bar : begins_inner_bar ex (8 * n) ≡ is_inner canon behind
+  pub is_inner_bar : begins_inner_bar ex (8 * n) ≡ is_inner canon behind
   is_inner_bar =
       ap₂ (λ b k. b && nat_le 2 k && nat_lt k canon.bars) (at_bar n) numbered
 
@@ -335,7 +335,7 @@ module _ (canon : Canon) (bars : List (List Cell)) (n : ℕ) (within : n < lengt
   is_last_bar = ap₂ (λ b k. b && (k == canon.bars)) (at_bar n) numbered
 
   -- within a bar none begins
-  no_inner_bar : (slot : ℕ) → 0 < slot → slot < 8 → begins_inner_bar ex (8 * n + slot) ≡ false
+  pub no_inner_bar : (slot : ℕ) → 0 < slot → slot < 8 → begins_inner_bar ex (8 * n + slot) ≡ false
   no_inner_bar slot late low =
       ap (λ b. b && nat_le 2 (bar_of (8 * n + slot)) && nat_lt (bar_of (8 * n + slot)) canon.bars)
       (within_bar n slot late low)

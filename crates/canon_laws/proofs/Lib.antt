@@ -1,3 +1,5 @@
 pub mod BarColumns
 pub mod BookLemmas
+pub mod CantusLemmas
+pub mod CostLemmas
 pub mod HeldColumns

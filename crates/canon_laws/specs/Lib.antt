@@ -1,1 +1,3 @@
+pub mod BookCosts
 pub mod BookRules
+pub mod CantusCosts
