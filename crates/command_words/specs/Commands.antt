@@ -12,7 +12,7 @@ use Rattle.fux_text.specs.Names.{mode_named, pitch_named}
 use Rattle.smf_score.specs.Heads.{IsHead}
 use Rattle.text_lines.specs.Numbers.{number_within}
 use Rattle.command_words.specs.declared.command.Command.{Command}
-use Rattle.command_words.specs.declared.command.Command.TheVariants.{Certify, CertifyCantus, Make}
+use Rattle.command_words.specs.declared.command.Command.TheVariants.{Certify, CertifyCantus, Make, WholeClass}
 use Rattle.command_words.specs.declared.command.Job.{Job}
 use Rattle.command_words.specs.declared.command.Job.TheVariants.{Compose, Best, Mark, Weigh, Cantus, Print, ToSmf, ToXml, MarkXml, Picture, MarkPicture}
 use Rattle.command_words.specs.declared.command.MixedJob.{MixedJob}
@@ -40,12 +40,13 @@ pub data Task : Type 0 where
   drill : (number : ℕ) (by_sharper : Bool) → Task
   mark_answer : (name lesson : Text) → Task
   class_report : (list : Text) → Task
+  whole_class : (list : Text) (lesson : Option Text) → Task
   find_canon : (name : Text) (sheet : Option Text) (budget : ℕ) → Task
   find_cantus : (wanted : Wanted) (sheet : Option Text) (budget : ℕ) → Task
   certify_cantus : (wanted : Wanted) (sheet : Option Text) (budget : ℕ) → Task
   check_cantus : (wanted : Wanted) (certificate : Text) (sheet : Option Text) → Task
 
--- the name of a sheet, as its bytes
+-- the name of a sheet or a lesson, as its bytes
 abbrev pub sheet_named : Option (Bor (List ℕ)) → Option (List ℕ)
 sheet_named = option_map (λ name. name.now)
 
@@ -65,6 +66,7 @@ making_task (CheckCantus wanted certificate sheet) = check_cantus wanted certifi
 
 abbrev pub task_of : Command → Task
 task_of (Make making) = making_task making
+task_of (WholeClass list lesson) = whole_class list.now (sheet_named lesson)
 task_of (Certify name sheet budget form) = certify name.now (sheet_named sheet) budget form
 task_of (CertifyCantus wanted sheet budget) = certify_cantus wanted (sheet_named sheet) budget
 
@@ -90,6 +92,7 @@ HasMidiHead _ = Unit {0}
 
 abbrev pub HasHead : Command → Type 0
 HasHead (Make making) = HasMidiHead making
+HasHead (WholeClass list lesson) = Unit {0}
 HasHead (Certify name sheet budget form) = Unit {0}
 HasHead (CertifyCantus wanted sheet budget) = IsWanted wanted
 
@@ -198,8 +201,16 @@ marking_of name (Some lesson) = mark_answer name lesson
 abbrev pub mark_asked : List Row → Option Task
 mark_asked rows = first_of (codes "EX") rows >>= λ name. Some (marking_of name (first_of (codes "lesson") rows))
 
+-- marking a class by itself; or by a lesson or going on, whatever its files are
+abbrev pub classing_of : Text → Option Text → Bool → Task
+classing_of list None false = class_report list
+classing_of list None true = whole_class list None
+classing_of list (Some lesson) going_on = whole_class list (Some lesson)
+
 abbrev pub class_asked : List Row → Option Task
-class_asked rows = first_of (codes "LIST") rows >>= λ list. Some (class_report list)
+class_asked rows = do
+  list ← first_of (codes "LIST") rows
+  Some (classing_of list (first_of (codes "lesson") rows) (is_set (codes "keep-going") rows))
 
 abbrev pub canon_asked : List Row → Option Task
 canon_asked rows = do

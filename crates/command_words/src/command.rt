@@ -151,6 +151,12 @@ pub enum Making<'a> {
 pub enum Command<'a> {
     /// What is made whole before any of it is written.
     Make(Making<'a>),
+    /// The report of the exercises in the files that a list names, in which each name has its
+    /// place, also where its file can't be read; by the lesson in a file where one is named.
+    WholeClass {
+        list: &'a str,
+        lesson: Option<&'a str>,
+    },
     /// The certificate, in this form, of the best setting of the exercise in a file, found within
     /// this budget, over the sheet of weights in another where one is named. It is written while it
     /// is made, for it may be longer than memory holds.

@@ -5,7 +5,7 @@ ghost use Rattle.clap.specs.Words.{first_of, found_of, rows_of};
 ghost use Rattle.fux_text.specs.Names.{mode_named};
 ghost use Rattle.smf_score.specs.Heads.{IsHead};
 ghost use Rattle.text_lines.specs.Numbers.{number_within};
-ghost use Rattle.command_words.specs.Commands.{AreNamed, HasHead, HasMidiHead, IsWanted, against_in, asks, best_asked, budget_in, canon_asked, certify_asked, certify_cantus_asked, check_asked, check_cantus_asked, class_asked, compose_asked, drill_asked, explain_asked, form_in, from_smf_asked, head_in, is_item, is_set, job_asked, making_task, mark_asked, mark_mixed_asked, mark_picture_asked, mark_xml_asked, mark_xml_with, marked_picture_with, marking_of, mixed_asked, named_in, new_cantus_asked, number_at, picture_asked, print_asked, said_of, task_of, wanted_in, weigh_asked, weighing_with, wrap_in};
+ghost use Rattle.command_words.specs.Commands.{AreNamed, HasHead, HasMidiHead, IsWanted, against_in, asks, best_asked, budget_in, canon_asked, certify_asked, certify_cantus_asked, check_asked, check_cantus_asked, class_asked, classing_of, compose_asked, drill_asked, explain_asked, form_in, from_smf_asked, head_in, is_item, is_set, job_asked, making_task, mark_asked, mark_mixed_asked, mark_picture_asked, mark_xml_asked, mark_xml_with, marked_picture_with, marking_of, mixed_asked, named_in, new_cantus_asked, number_at, picture_asked, print_asked, said_of, task_of, wanted_in, weigh_asked, weighing_with, wrap_in};
 
 use crate::command::{Command, Job, Making, MixedJob, Named, Wanted};
 use crate::verbs::Verb;
@@ -278,13 +278,27 @@ fn mark_asked<'a>(matches: &ArgMatches<'a>) -> Option<Command<'a>>
     Some(Command::Make(marking_of(name, lesson)))
 }
 
+/// Marking a class by itself; or by a lesson or going on, whatever its files are.
+fn classing_of<'a>(list: &'a str, lesson: Option<&'a str>, going_on: bool) -> Command<'a>
+    ensures asked { task_of result
+        ≡ classing_of list.entry.now (option_map (λ text. text.now) lesson.entry) going_on }
+    ensures head { HasHead result }
+{
+    match lesson {
+        None if !going_on => Command::Make(Making::Class { list }),
+        lesson => Command::WholeClass { list, lesson },
+    }
+}
+
 /// `class`, on a list.
 fn class_asked<'a>(matches: &ArgMatches<'a>) -> Option<Command<'a>>
     ensures asked { option_map task_of result ≡ class_asked (rows_of (found_of matches.now)) }
     ensures head { IfSome result HasHead }
 {
     let list = value(matches, "LIST")?;
-    Some(Command::Make(Making::Class { list }))
+    let lesson = value(matches, "lesson");
+    let going_on = is_set(matches, "keep-going");
+    Some(classing_of(list, lesson, going_on))
 }
 
 /// `canon`, on the text of a canon in a file.

@@ -121,6 +121,8 @@ pub enum Part {
     Penalty,
     /// The file of a lesson.
     Lesson,
+    /// A class is told of whole, also where a file can't be read.
+    KeepGoing,
     /// The mode of a MIDI file.
     Mode,
     /// The species of a MIDI file.
@@ -179,7 +181,7 @@ impl Verb {
                 ],
             ),
             Verb::Drill => ("drill", &[Part::Number, Part::BySharper]),
-            Verb::Class => ("class", &[Part::List]),
+            Verb::Class => ("class", &[Part::List, Part::Lesson, Part::KeepGoing]),
             Verb::Canon => ("canon", &[Part::File, Part::Sheet, Part::Budget]),
             Verb::Mixed => (
                 "mixed",
@@ -260,6 +262,7 @@ impl Part {
             Part::Wrap => "wrap",
             Part::Penalty => "penalty",
             Part::Lesson => "lesson",
+            Part::KeepGoing => "keep-going",
             Part::Mode => "mode",
             Part::Species => "species",
             Part::Voice => "voice",
@@ -291,7 +294,7 @@ impl Part {
             | Part::Wrap
             | Part::Lesson => Kind::Option,
             Part::With | Part::Mode | Part::Species | Part::Voice | Part::Cantus => Kind::Needed,
-            Part::Penalty | Part::TopFirst | Part::BySharper => Kind::Flag,
+            Part::Penalty | Part::KeepGoing | Part::TopFirst | Part::BySharper => Kind::Flag,
         }
     }
 }

@@ -2,14 +2,15 @@
 
 ghost use Rattle.std.specs.Prelude.{◌≡◌, IfErr};
 ghost use Rattle.works.specs.Blame.{BlamesNoFile, ServesTask};
-ghost use Rattle.command_words.specs.Commands.{HasHead, HasMidiHead, making_task, task_of};
+ghost use Rattle.command_words.specs.Commands.{HasHead, HasMidiHead, making_task, sheet_named, task_of};
+ghost use Rattle.command_words.specs.Commands as tasks;
 ghost use Rattle.works.specs.Endings.{Ended, EndsOn};
 
 use command_words::{Command, Making};
 use fux_port::{Failed, Shelf, Sink, write_all};
 use std::alloc::Global;
 use std::thread::Threads;
-use works::{Complaint, Verdict, make, perform_cantus, perform_certify};
+use works::{Complaint, Verdict, make, perform_cantus, perform_certify, whole_class};
 
 /// Does the work of a command, and writes what comes of it.
 pub fn perform<'a, F: Shelf, K: Sink, R: Threads + Sync>(
@@ -28,6 +29,7 @@ pub fn perform<'a, F: Shelf, K: Sink, R: Threads + Sync>(
 {
     match command {
         Command::Make(making) => perform_making(rt, alloc, making, shelf, out),
+        Command::WholeClass { list, lesson } => perform_class(alloc, list, lesson, shelf, out),
         Command::Certify {
             name,
             sheet,
@@ -58,6 +60,29 @@ fn perform_making<'a, F: Shelf, K: Sink, R: Threads + Sync>(
     ensures files { F.files shelf.new ≡ F.files shelf.old }
 {
     let output = make(rt, alloc, making, shelf)?;
+    match write_all(out, output.bytes.as_slice()) {
+        Ok(()) => Ok(output.verdict),
+        Err(Failed) => Err(Complaint::Unwritable),
+    }
+}
+
+/// Reports a class in which each name has its place, and writes that. All of the report is made
+/// before any of it is written.
+fn perform_class<'a, F: Shelf, K: Sink>(
+    alloc: Global,
+    list: &'a str,
+    lesson: Option<&'a str>,
+    shelf: &mut F,
+    out: &mut K,
+) -> Result<Verdict, Complaint<'a>>
+    ensures ended { EndsOn F.files F.faults K.written K.faults K.serves
+        (Ended (tasks.whole_class list.entry.now (sheet_named lesson.entry))) shelf.old shelf.new
+        out.old out.new result }
+    ensures served { ServesTask (F.serves shelf.old) (F.files shelf.old)
+        (tasks.whole_class list.entry.now (sheet_named lesson.entry)) → IfErr result BlamesNoFile }
+    ensures files { F.files shelf.new ≡ F.files shelf.old }
+{
+    let output = whole_class(alloc, list, lesson, shelf)?;
     match write_all(out, output.bytes.as_slice()) {
         Ok(()) => Ok(output.verdict),
         Err(Failed) => Err(Complaint::Unwritable),

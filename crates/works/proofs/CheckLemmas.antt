@@ -33,7 +33,7 @@ use Rattle.class_marker.specs.Markings.{IsContent}
 use Rattle.fux_text.proofs.ReadTexts.{texts-faultless}
 use Rattle.fux_text.specs.Texts.{IsTextOf}
 use Rattle.works.specs.Classes.{RefusesList}
-use Rattle.command_words.specs.Commands.{Task, certify, certify_cantus, check, check_cantus, class_report, drill, explain, find_canon, find_cantus, fromsmf, mark_answer, on_exercise, on_mixed}
+use Rattle.command_words.specs.Commands.{Task, certify, certify_cantus, check, check_cantus, class_report, drill, explain, find_canon, find_cantus, fromsmf, mark_answer, on_exercise, on_mixed, whole_class}
 use Rattle.works.specs.TaskFiles.{as_list, limit_in, name_in, names_in, names_listed, names_within}
 use Rattle.works.specs.Complaints.{name_text}
 use Rattle.works.specs.Endings.{IsCut, IsMade, IsRefused, IsUnread, IsWritten, SaysWithin, work_output}
@@ -139,6 +139,7 @@ output_is_there (explain file) files name bytes output made one missing = omega 
 output_is_there (fromsmf file head) files name bytes output made one missing = omega (arith, one.1)
 output_is_there (drill number by_sharper) files name bytes output made one missing = omega (arith, one.1)
 output_is_there (mark_answer file lesson) files name bytes output made one missing = omega (arith, one.1)
+output_is_there (whole_class list lesson) files name bytes output made one missing = omega (arith, one.1)
 output_is_there (find_canon file sheet budget) files name bytes output made one missing = omega (arith, one.1)
 output_is_there (find_cantus wanted sheet budget) files name bytes output made one missing = omega (arith, one.1)
 output_is_there (certify_cantus wanted sheet budget) files name bytes output made one missing = omega (arith, one.1)
@@ -253,6 +254,7 @@ not_refused (explain file) files bytes refusal made ready = ready
 not_refused (fromsmf file head) files bytes refusal made ready = ready
 not_refused (drill number by_sharper) files bytes refusal made ready = ready
 not_refused (mark_answer file lesson) files bytes refusal made ready = ready
+not_refused (whole_class list lesson) files bytes refusal made ready = ready
 not_refused (find_canon file sheet budget) files bytes refusal made ready = ready
 not_refused (find_cantus wanted sheet budget) files bytes refusal made ready = ready
 not_refused (certify_cantus wanted sheet budget) files bytes refusal made ready = ready

@@ -66,7 +66,7 @@ same_at k [] d e within = absurd (omega (arith, within))
 same_at zero (x ∷ xs) d e within = refl
 same_at (suc k) (x ∷ xs) d e within = same_at k xs d e (omega (arith, within))
 
-map_at : (k : ℕ) (names : List (String Global)) (d : String Global) → k < length names
+pub map_at : (k : ℕ) (names : List (String Global)) (d : String Global) → k < length names
     → get_or (map string_bytes names) k (string_bytes d) ≡ string_bytes (get_or names k d)
 map_at k [] d within = absurd (omega (arith, within))
 map_at zero (name ∷ names) d within = refl

@@ -18,5 +18,6 @@ pub mod ExplainLemmas
 pub mod MakeLemmas
 pub mod MixedLemmas
 pub mod ReadBackLemmas
+pub mod WholeLemmas
 pub mod WithinLemmas
 pub mod WorkLemmas

@@ -24,4 +24,5 @@ pub mod Searched
 pub mod Sheets
 pub mod TaskFiles
 pub mod Texts
+pub mod WholeClasses
 pub mod Works

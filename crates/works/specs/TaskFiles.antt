@@ -2,7 +2,7 @@
 use Rattle.std.specs.Prelude.{ℕ, List, [], ◌∷◌, Option, Some, None, Result, Ok, Err}
 use Rattle.clap.specs.Words.{Text}
 use Rattle.class_marker.specs.Lists.{listed_names}
-use Rattle.command_words.specs.Commands.{Task, on_exercise, on_mixed, certify, check, fromsmf, drill, mark_answer, class_report, find_canon, find_cantus, certify_cantus, check_cantus, explain}
+use Rattle.command_words.specs.Commands.{Task, on_exercise, on_mixed, certify, check, fromsmf, drill, mark_answer, class_report, whole_class, find_canon, find_cantus, certify_cantus, check_cantus, explain}
 
 -- the name that a line about a refused file tells, where it tells one
 abbrev pub name_in : Task → Text
@@ -15,6 +15,7 @@ name_in (fromsmf name head) = name
 name_in (drill number by_sharper) = []
 name_in (mark_answer name lesson) = name
 name_in (class_report list) = list
+name_in (whole_class list lesson) = list
 name_in (find_canon name sheet budget) = name
 name_in (find_cantus wanted sheet budget) = []
 name_in (certify_cantus wanted sheet budget) = []
@@ -36,6 +37,7 @@ names_in (fromsmf name head) = name ∷ []
 names_in (drill number by_sharper) = []
 names_in (mark_answer name lesson) = name ∷ lesson ∷ []
 names_in (class_report list) = list ∷ []
+names_in (whole_class list lesson) = list ∷ as_list lesson
 names_in (find_canon name sheet budget) = name ∷ as_list sheet
 names_in (find_cantus wanted sheet budget) = as_list sheet
 names_in (certify_cantus wanted sheet budget) = as_list sheet
@@ -65,6 +67,7 @@ limit_in (fromsmf name head) = 1048576
 limit_in (drill number by_sharper) = 65536
 limit_in (mark_answer name lesson) = 65536
 limit_in (class_report list) = 65536
+limit_in (whole_class list lesson) = 65536
 limit_in (find_canon name sheet budget) = 65536
 limit_in (find_cantus wanted sheet budget) = 65536
 limit_in (certify_cantus wanted sheet budget) = 65536

@@ -4,6 +4,7 @@ use Rattle.cert_text.specs.declared.answers.Form.{Form}
 use Rattle.class_marker.specs.Lists.{listed_names}
 use Rattle.class_marker.specs.Markings.{IsContent, IsTheText}
 use Rattle.fux_grid.specs.declared.exercise.Exercise.{Exercise}
+use Rattle.fux_pitch.specs.declared.memory.Memory.{Memory as MemoryFault}
 use Rattle.fux_port.specs.Files.{file_of, HasFile, IsMissing}
 use Rattle.works.specs.declared.complaint.Complaint.{Complaint}
 use Rattle.works.specs.declared.complaint.Complaint.TheVariants as complaint
@@ -23,7 +24,7 @@ use Rattle.works.specs.Certified.{Certifies}
 use Rattle.works.specs.Charged.{Weighs}
 use Rattle.works.specs.Checked.{AnswersWithin, Checks, IsUnreadable}
 use Rattle.works.specs.Classes.{IsClass, IsList, RefusesList}
-use Rattle.command_words.specs.Commands.{Task, on_exercise, on_mixed, certify, check, fromsmf, drill, mark_answer, class_report, find_canon, find_cantus, certify_cantus, check_cantus, explain}
+use Rattle.command_words.specs.Commands.{Task, on_exercise, on_mixed, certify, check, fromsmf, drill, mark_answer, class_report, whole_class, find_canon, find_cantus, certify_cantus, check_cantus, explain}
 use Rattle.works.specs.TaskFiles.{as_list, names_in}
 use Rattle.works.specs.Complaints.{name_text}
 use Rattle.works.specs.Composed.{Composes, ComposesSharply}
@@ -38,6 +39,7 @@ use Rattle.works.specs.Rendered.{MarksPicture, MarksXml, Pictures, Prints, Write
 use Rattle.works.specs.Searched.{IsNarrow}
 use Rattle.works.specs.Sheets.{OnSheet, sheet_said}
 use Rattle.works.specs.Texts.{Work, OnText}
+use Rattle.works.specs.WholeClasses.{ReportsWhole}
 
 -- a job makes this of an exercise, over the sheet in use
 abbrev pub MakesOf : Job → Sheet → Exercise → Work → Type 0
@@ -132,6 +134,7 @@ Makes (fromsmf name head) files (file ∷ []) work = ReadsMidi head file work
 Makes (drill number by_sharper) files [] work = Drills number by_sharper work
 Makes (mark_answer name lesson) files (text ∷ given ∷ []) work = MarksAnswer given text work
 Makes (class_report list) files (text ∷ []) work = ReportsClass files text work
+Makes (whole_class list lesson) files (text ∷ lessons) work = ReportsWhole files (Unit {0}) text lessons work
 Makes (find_canon name sheet budget) files (text ∷ sheets) work = MakesCanon budget sheets text work
 Makes (find_cantus wanted sheet budget) files sheets work = MakesCantus wanted budget sheets work
 Makes (certify_cantus wanted sheet budget) files sheets work = MakesCantusCertificate wanted budget sheets work
@@ -164,6 +167,23 @@ abbrev pub Answers : (Work → Type 0) → Result Output Stop → Type 0
 Answers Made (Ok output) = Made (Ok output)
 Answers Made (Err (Refused refusal)) = Made (Err refusal)
 Answers Made (Err Memory) = Unit {0}
+
+-- an output that `class` makes of a list and of the lesson where one is named, and of which a fact
+-- holds: it tells of a file that it can't be read only where a read failed, or the file is missing
+pub record TellsCauses (list : List ℕ) (lesson : Option (List ℕ)) (files : Files) (rose : Type 0)
+    (Holds : Output → Type 0) : Type 0 where
+  pub text : List ℕ
+  pub lessons : List (List ℕ)
+  pub had : AllMayHave files (list ∷ as_list lesson) (text ∷ lessons)
+  pub output : Output
+  pub made : ReportsWhole files rose text lessons (Ok output)
+  pub holds : Holds output
+
+-- an answer of a command is so, where it is one to such a `class`
+abbrev pub IsOfCauses : {A E : Type 0} → Task → Files → Type 0 → (A → Output → Type 0) → Result A E → Type 0
+IsOfCauses (whole_class list lesson) files rose Holds (Ok answer) =
+    TellsCauses list lesson files rose (Holds answer)
+IsOfCauses _ _ _ _ _ = Unit {0}
 
 -- the work of a command on its files, of which a fact holds
 pub record Works (task : Task) (files : Files) (Holds : Work → Type 0) : Type 0 where
@@ -209,6 +229,12 @@ Reads limit files rose name (Err (complaint.Unreadable file)) =
     (name_text file ≡ name) × (rose ⊎ IsMissing files name)
 Reads limit files rose name (Err complaint.OutOfMemory) = Unit {0}
 Reads limit files rose name (Err _) = ⊥
+
+-- the same where a file may be without being read: then too with its cause
+abbrev pub ReadsOrNot : Files → Type 0 → List ℕ → Result (Option Content) MemoryFault → Type 0
+ReadsOrNot files failed name (Ok None) = failed ⊎ IsMissing files name
+ReadsOrNot files failed name (Ok (Some text)) = IsRead 65536 files name text
+ReadsOrNot files failed name (Err memory) = Unit {0}
 
 -- the same of the file of a sheet, where one is named
 abbrev pub ReadsSheetFile : Files → Type 0 → Option (List ℕ) → Result (Option Content) Complaint → Type 0

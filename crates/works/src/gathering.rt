@@ -1,0 +1,171 @@
+//! The command `class`, where each name of the list has its place in the report, also where its
+//! file can't be read.
+
+ghost use Rattle.std.specs.Prelude.{◌≡◌, ◌≤◌, ℕ, IfErr, IfOk, List, map, string_bytes};
+ghost use Rattle.std.specs.Option.{ForSome, option_copied};
+ghost use Rattle.class_marker.specs.Markings.{IsContent};
+ghost use Rattle.command_words.specs.Commands.{sheet_named};
+ghost use Rattle.command_words.specs.Commands as tasks;
+ghost use Rattle.fux_grid.specs.Exercises.{IsValid};
+ghost use Rattle.fux_port.specs.Counts.{Rose};
+ghost use Rattle.works.specs.Blame.{BlamesNoFile, ServesTask};
+ghost use Rattle.works.specs.Endings.{IsMade};
+ghost use Rattle.works.specs.WholeClasses.{AreSaid, IsWholeReport, ReportsBy, ReportsWhole, whole_output};
+ghost use Rattle.works.specs.Works.{Answers, IsOfCauses, OnTexts, ReadsOrNot};
+
+use crate::answering::lesson_of;
+use crate::complaint::Complaint;
+use crate::content::read_content;
+use crate::exercise::LONGEST_TEXT;
+use crate::making::{read_weights, said};
+use crate::refusal::Refusal;
+use crate::work::{Output, Stop, Verdict};
+use answer_classes::{WholeReport, put_said, read_loose_list, say, whole};
+use class_marker::{ListFault, Text};
+use fux_grid::Exercise;
+use fux_pitch::Memory;
+use fux_port::Shelf;
+use std::alloc::Global;
+
+/// What was read of the file of a name, or nothing where it can't be read.
+fn content_or_none<F: Shelf>(
+    alloc: Global,
+    shelf: &mut F,
+    name: &str,
+) -> Result<Option<Text>, Memory>
+    ensures reads { ReadsOrNot (F.files shelf.old) (Rose (F.faults shelf.old) (F.faults shelf.new))
+        name.now result }
+    ensures files { F.files shelf.new ≡ F.files shelf.old }
+    ensures faults { F.faults shelf.old ≤ F.faults shelf.new }
+{
+    match read_content(alloc, shelf, name, LONGEST_TEXT) {
+        Ok(text) => Ok(Some(text)),
+        Err(Complaint::Unreadable { .. }) => Ok(None),
+        Err(_) => Err(Memory),
+    }
+}
+
+/// What is said of the files of these names, one after the other.
+fn say_names<F: Shelf>(
+    alloc: Global,
+    lesson: Option<&Exercise>,
+    names: &[String],
+    shelf: &mut F,
+) -> Result<WholeReport, Memory>
+    requires { ForSome lesson (λ exercise. IsValid exercise.now) }
+    ensures said { IfOk result (AreSaid (F.files shelf.old) (Rose (F.faults shelf.old) (F.faults shelf.new))
+        (option_copied lesson.entry) (map string_bytes names.now)) }
+    ensures files { F.files shelf.new ≡ F.files shelf.old }
+    ensures faults { F.faults shelf.old ≤ F.faults shelf.new }
+{
+    let mut report = WholeReport::new(alloc);
+    for place in 0..names.len() {
+        let name = names[place].as_str();
+        let found = content_or_none(alloc, shelf, name)?;
+        let said = say(alloc, lesson, &found)?;
+        put_said(&mut report, name, &said)?;
+    }
+    Ok(report)
+}
+
+/// What a report says, all in all.
+fn verdict_of(report: &WholeReport) -> Verdict
+    ensures { result ≡ (whole_output report.now).verdict }
+{
+    if report.marked == 0 && report.refused == 0 && report.others == 0 {
+        Verdict::Favorable
+    } else {
+        Verdict::Unfavorable
+    }
+}
+
+/// The output of a report. It takes no memory.
+fn output_of(report: WholeReport) -> Output
+    ensures { result ≡ whole_output report }
+{
+    Output::of_text(verdict_of(&report), report.text)
+}
+
+/// The report of the files of these names, by a lesson where there is one.
+fn report_names<F: Shelf>(
+    alloc: Global,
+    lesson: Option<&Exercise>,
+    names: &[String],
+    shelf: &mut F,
+) -> Result<Output, Memory>
+    requires { ForSome lesson (λ exercise. IsValid exercise.now) }
+    ensures reported { IfOk result (IsWholeReport (F.files shelf.old)
+        (Rose (F.faults shelf.old) (F.faults shelf.new)) (option_copied lesson.entry)
+        (map string_bytes names.now)) }
+    ensures files { F.files shelf.new ≡ F.files shelf.old }
+    ensures faults { F.faults shelf.old ≤ F.faults shelf.new }
+{
+    let report = say_names(alloc, lesson, names, shelf)?;
+    let report = whole(report, names.len(), lesson.is_some())?;
+    Ok(output_of(report))
+}
+
+/// The report of the files that a list names, by a lesson where there is one.
+fn report_list<F: Shelf>(
+    alloc: Global,
+    lesson: Option<&Exercise>,
+    list: &Text,
+    shelf: &mut F,
+) -> Result<Output, Stop>
+    requires { ForSome lesson (λ exercise. IsValid exercise.now) }
+    ensures reported { (bytes : List ℕ) → IsContent 65536 list.now bytes
+        → Answers (ReportsBy (F.files shelf.old) (Rose (F.faults shelf.old) (F.faults shelf.new))
+        bytes (option_copied lesson.entry)) result }
+    ensures files { F.files shelf.new ≡ F.files shelf.old }
+    ensures faults { F.faults shelf.old ≤ F.faults shelf.new }
+{
+    match read_loose_list(alloc, list) {
+        Ok(names) => Ok(report_names(alloc, lesson, &names, shelf)?),
+        Err(ListFault::At { line }) => Err(Stop::Refused(Refusal::List { line })),
+        Err(ListFault::Memory) => Err(Stop::Memory),
+    }
+}
+
+/// The same, by the lesson of a text where one is given.
+fn of_texts<F: Shelf>(
+    alloc: Global,
+    list: &Text,
+    given: &Option<Text>,
+    shelf: &mut F,
+) -> Result<Output, Stop>
+    ensures reported { OnTexts list.now given.now
+        (λ bytes lessons. Answers (ReportsWhole (F.files shelf.old)
+        (Rose (F.faults shelf.old) (F.faults shelf.new)) bytes lessons) result) }
+    ensures files { F.files shelf.new ≡ F.files shelf.old }
+    ensures faults { F.faults shelf.old ≤ F.faults shelf.new }
+{
+    match given {
+        None => report_list(alloc, None, list, shelf),
+        Some(given) => {
+            let lesson = lesson_of(alloc, given)?;
+            report_list(alloc, Some(&lesson), list, shelf)
+        }
+    }
+}
+
+/// The report of the files that a list names, in which each name has its place, by the lesson in a
+/// file where one is named.
+pub fn whole_class<'a, F: Shelf>(
+    alloc: Global,
+    list: &'a str,
+    lesson: Option<&'a str>,
+    shelf: &mut F,
+) -> Result<Output, Complaint<'a>>
+    ensures made { IsMade (tasks.whole_class list.entry.now (sheet_named lesson.entry))
+        (F.files shelf.old) (Rose (F.faults shelf.old) (F.faults shelf.new)) result }
+    ensures served { ServesTask (F.serves shelf.old) (F.files shelf.old)
+        (tasks.whole_class list.entry.now (sheet_named lesson.entry)) → IfErr result BlamesNoFile }
+    ensures causes { IsOfCauses (tasks.whole_class list.entry.now (sheet_named lesson.entry))
+        (F.files shelf.old) (Rose (F.faults shelf.old) (F.faults shelf.new))
+        (λ output told. told ≡ output) result }
+    ensures files { F.files shelf.new ≡ F.files shelf.old }
+{
+    let text = read_content(alloc, shelf, list, LONGEST_TEXT)?;
+    let given = read_weights(alloc, shelf, lesson)?;
+    said(alloc, list, of_texts(alloc, &text, &given, shelf))
+}
