@@ -17,6 +17,7 @@ pub mod ContentLemmas
 pub mod ExplainLemmas
 pub mod MakeLemmas
 pub mod MixedLemmas
+pub mod NewCantusLemmas
 pub mod ReadBackLemmas
 pub mod WholeLemmas
 pub mod WithinLemmas

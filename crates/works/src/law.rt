@@ -1,7 +1,7 @@
 //! What is proved of two commands together.
 
 ghost use Rattle.works.specs.Accepted.{CertifiedCantusIsAccepted, CertifiedIsAccepted};
-ghost use Rattle.works.specs.ReadBack.{BestIsRead, ComposedIsRead, MixedIsRead};
+ghost use Rattle.works.specs.ReadBack.{BestIsRead, ComposedIsRead, MixedIsRead, NewCantusIsRead};
 ghost use Rattle.works.specs.Works.{BestEndsAsComposed, BestIsComposed};
 
 /// What `compose` and `best` make of the same files is the same, where neither tells that its
@@ -21,9 +21,11 @@ pub fn certified_is_accepted()
 {}
 
 /// What `compose`, `best` and `mixed` write of a best setting is a note text of the exercise with
-/// that setting, where it is no longer than a text may be. It does nothing.
+/// that setting, where it is no longer than a text may be; and what `newcantus` writes has the line
+/// of the cantus in such a text, but for the number of its voice. It does nothing.
 pub fn written_is_read()
     ensures composed { ComposedIsRead }
     ensures best { BestIsRead }
     ensures mixed { MixedIsRead }
+    ensures cantus { NewCantusIsRead }
 {}
