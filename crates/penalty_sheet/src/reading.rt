@@ -15,7 +15,7 @@ use toml::{Table, Value};
 const MOST_BYTES: usize = 65_536;
 
 /// The sheet that the value of `weights` is.
-fn weights_sheet(alloc: Global, value: &Value) -> Result<Sheet, SheetFault>
+pub fn weights_sheet(alloc: Global, value: &Value) -> Result<Sheet, SheetFault>
     ensures ok { IfOk result (λ sheet. weights_said (Some (view value.now)) ≡ Ok sheet) }
     ensures fault { IfErr result (λ fault. fault ≢ SheetFault.Memory →
         weights_said (Some (view value.now)) ≡ Err fault) }
@@ -56,7 +56,7 @@ fn document_sheet(alloc: Global, document: &Table) -> Result<Sheet, SheetFault>
 }
 
 /// The document that bytes are.
-fn document(alloc: Global, bytes: &[u8]) -> Result<Table, SheetFault>
+pub fn document(alloc: Global, bytes: &[u8]) -> Result<Table, SheetFault>
     ensures ok { IfOk result (λ table. document_of bytes.now ≡ Some (table_view table)) }
     ensures fault { IfErr result (λ fault. fault ≢ SheetFault.Memory →
         (fault ≡ SheetFault.NotToml) × (document_of bytes.now ≡ None)) }
