@@ -6,6 +6,18 @@ function options_of(command, parts, n, i, found) {
     return found "--help"
 }
 
+# The name of an option, and before it a command that has it as a flag, where there is one.
+function flagged(option, name, parts, i, j, n) {
+    name = option
+    sub(/ .*/, "", name)
+    if (!(name in value_of)) return "*:" name
+    for (i = 1; i <= count; i++) {
+        n = words_of(commands[i], parts)
+        for (j = 1; j <= n; j++) if (option_at(parts, j) == option) found = found (found == "" ? "" : " | ") commands[i] ":" name
+    }
+    return found
+}
+
 # What may stand first behind a command: the kind of its first word.
 function first_kind(command, parts, n) {
     n = words_of(command, parts)
@@ -24,12 +36,12 @@ END {
     print "        mapfile -t COMPREPLY < <(compgen -W '" names "--help --version --unproved' -- \"$word\")"
     print "        return"
     print "    fi"
-    print "    case $before in"
+    print "    case $command:$before in"
     for (i = 1; i <= option_count; i++) {
         if (value_of[options[i]] == "") continue
         kind = said["option", options[i], "kind"]
-        if (kind == "file") print "        " options[i] ") compopt -o filenames; mapfile -t COMPREPLY < <(compgen -f -- \"$word\"); return ;;"
-        else print "        " options[i] ") mapfile -t COMPREPLY < <(compgen -W '" kind "' -- \"$word\"); return ;;"
+        if (kind == "file") print "        " flagged(options[i]) ") compopt -o filenames; mapfile -t COMPREPLY < <(compgen -f -- \"$word\"); return ;;"
+        else print "        " flagged(options[i]) ") mapfile -t COMPREPLY < <(compgen -W '" kind "' -- \"$word\"); return ;;"
     }
     print "    esac"
     print "    case $command in"

@@ -40,7 +40,7 @@ verbs() {
         $1 == "command" { tell(); name = $2; by = "" }
         $1 == "by" { by = $2 }
         END { tell() }' "$share/commands" | sort >"$work/verbs.here"
-    sed -n 's/^option: --\([a-z-]*\).*/\1/p' "$share/commands" | sort | comm -23 - "$work/verbs.here" >"$work/options"
+    sed -n 's/^option: --\([a-z-]*\).*/\1/p' "$share/commands" | sort -u | comm -23 - "$work/verbs.here" >"$work/options"
     for file in "$top"/crates/*/src/*.rt; do
         grep -q '"compose"' "$file" && grep -q '"newcantus"' "$file" && grep -q '"tosmf"' "$file" && grep -o '"[a-z-]*"' "$file"
     done | tr -d '"' | sort -u | grep -vxFf "$work/options" >"$work/verbs.there"

@@ -12,17 +12,18 @@ function offer(kind) {
     return kind == "" ? " -f" : " -f -a " quoted(kind)
 }
 
-function arguments(command, parts, n, i, only) {
+function arguments(command, parts, n, i, only, option) {
     only = "complete -c fux -n '__fish_seen_subcommand_from " command "'"
     n = words_of(command, parts)
     print only offer(n && parts[1] !~ /^--/ ? (said["word", parts[1], "kind"] == "command" ? names : said["word", parts[1], "kind"]) : "")
     print only " -l help -d 'all of this command'"
     for (i = 1; i <= n; i++) {
         if (parts[i] !~ /^--/) continue
-        if (value_of[parts[i]] == "") {
-            print only " -l " substr(parts[i], 3) " -d " quoted(said["option", parts[i], "line"])
+        option = option_at(parts, i)
+        if (value_of[option] == "") {
+            print only " -l " substr(parts[i], 3) " -d " quoted(said["option", option, "line"])
         } else {
-            print only " -l " substr(parts[i], 3) " -r" offer(said["option", parts[i], "kind"]) " -d " quoted(said["option", parts[i], "line"])
+            print only " -l " substr(parts[i], 3) " -r" offer(said["option", option, "kind"]) " -d " quoted(said["option", option, "line"])
         }
     }
 }

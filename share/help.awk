@@ -48,12 +48,13 @@ function all(i, group) {
 }
 
 # The words and the options of a command, each with what it is.
-function parts_of_form(command, parts, n, i, seen) {
+function parts_of_form(command, parts, n, i, option) {
     n = words_of(command, parts)
     for (i = 1; i <= n; i++) {
         if (parts[i] ~ /^--/) {
-            entry(parts[i] (value_of[parts[i]] == "" ? "" : " " value_of[parts[i]]), said["option", parts[i], "line"], 11)
-            if (value_of[parts[i]] != "") i++
+            option = option_at(parts, i)
+            entry(option, said["option", option, "line"], 11)
+            if (value_of[option] != "") i++
         } else if (said["word", parts[i], "line"] != "") {
             entry(parts[i], said["word", parts[i], "line"], 11)
         }
@@ -133,7 +134,7 @@ function needed(command, wants_options, parts, n, i, found, form) {
     for (i = 1; i <= n; i++) {
         if (parts[i] ~ /^--/) {
             if (wants_options) found = found parts[i] " "
-            if (value_of[parts[i]] != "") i++
+            if (value_of[option_at(parts, i)] != "") i++
         } else if (!wants_options) {
             found = found (said["word", parts[i], "kind"] == "file" ? "file" : "-") " "
         }

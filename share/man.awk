@@ -74,8 +74,9 @@ END {
     for (i = 1; i <= count; i++) command_part(commands[i])
     print ".SH OPTIONS"
     for (i = 1; i <= option_count; i++) {
+        split(options[i], part, " ")
         print ".TP"
-        print "\\fB" plain(options[i]) "\\fR" (value_of[options[i]] == "" ? "" : " \\fI" value_of[options[i]] "\\fR")
+        print "\\fB" plain(part[1]) "\\fR" (value_of[options[i]] == "" ? "" : " \\fI" value_of[options[i]] "\\fR")
         print plain(said["option", options[i], "line"])
     }
     print ".TP"

@@ -1,8 +1,8 @@
 # Reads share/commands. What it leaves, for the program behind it:
 #   commands[1 .. count]        the first words, in order
 #   group_of[command]           the heading above it
-#   options[1 .. option_count]  the names of the options, value_of[option] the word for a value or
-#                               nothing
+#   options[1 .. option_count]  the options, each its name with the word for a value where it takes
+#                               one; value_of[option] is that word or nothing
 #   said[kind, name, field]     the one line of a field: kind is command, word, option or every
 #   many[kind, name, field]     how many lines a field has, item[kind, name, field, 1 ..] each of
 #                               them
@@ -20,8 +20,8 @@ field == "word" { kind = field; name = value; next }
 field == "every" { kind = field; name = ""; next }
 field == "option" {
     kind = field
+    name = value
     split(value, part, " ")
-    name = part[1]
     options[++option_count] = name
     value_of[name] = part[2]
     next
@@ -41,6 +41,12 @@ function short_form(command, form) {
     form = whole_form(command)
     gsub(/ \[--[^]]*\]/, "", form)
     return form
+}
+
+# The option at one of the parts of a form: one name may be that of a flag, and in another command
+# that of an option with a value.
+function option_at(parts, i) {
+    return (parts[i] " " parts[i + 1]) in value_of ? parts[i] " " parts[i + 1] : parts[i]
 }
 
 # The words of a command's form without brackets, in parts; answers how many.

@@ -17,14 +17,18 @@ function action(kind) {
     return kind == "" ? "" : "(" kind ")"
 }
 
-function arguments(command, parts, n, i, line, kind) {
+function arguments(command, parts, n, i, line, kind, option) {
     line = "        (" command ") _arguments '--help[all of this command]'"
     n = words_of(command, parts)
     for (i = 1; i <= n; i++) {
         if (parts[i] ~ /^--/) {
-            kind = said["option", parts[i], "kind"]
-            line = line " \\\n            '" parts[i] (value_of[parts[i]] == "" ? "" : "=") "[" quoted(said["option", parts[i], "line"]) "]"
-            if (value_of[parts[i]] != "") line = line ":" value_of[parts[i++]] ":" action(kind)
+            option = option_at(parts, i)
+            kind = said["option", option, "kind"]
+            line = line " \\\n            '" parts[i] (value_of[option] == "" ? "" : "=") "[" quoted(said["option", option, "line"]) "]"
+            if (value_of[option] != "") {
+                line = line ":" value_of[option] ":" action(kind)
+                i++
+            }
             line = line "'"
         } else {
             line = line " \\\n            ':" parts[i] ":" action(said["word", parts[i], "kind"]) "'"

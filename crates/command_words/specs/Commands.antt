@@ -19,6 +19,8 @@ use Rattle.command_words.specs.declared.command.MixedJob.{MixedJob}
 use Rattle.command_words.specs.declared.command.MixedJob.TheVariants as mixed
 use Rattle.command_words.specs.declared.command.Making.{Making}
 use Rattle.command_words.specs.declared.command.Making.TheVariants.{OnExercise, OnMixed, Check, FromSmf, Drill, MarkAnswer, Class, Canon, NewCantus, CheckCantus, Explain}
+use Rattle.command_words.specs.declared.command.Subject.{Subject}
+use Rattle.command_words.specs.declared.command.Subject.TheVariants as subject
 use Rattle.command_words.specs.declared.command.Wanted.{Wanted}
 use Rattle.command_words.specs.declared.verbs.Verb.{Verb}
 use Rattle.command_words.specs.declared.verbs.Verb.TheVariants as verb
@@ -35,7 +37,7 @@ pub data Task : Type 0 where
   on_mixed : (name : Text) (sheet : Option Text) (named : List (Option ℕ)) (job : MixedJob) → Task
   certify : (name : Text) (sheet : Option Text) (budget : ℕ) (form : Form) → Task
   check : (name certificate : Text) (sheet : Option Text) → Task
-  explain : (name : Text) → Task
+  explain : (name : Text) (subject : Subject) → Task
   fromsmf : (name : Text) (head : Head) → Task
   drill : (number : ℕ) (by_sharper : Bool) → Task
   mark_answer : (name lesson : Text) → Task
@@ -55,7 +57,7 @@ abbrev pub making_task : Making → Task
 making_task (OnExercise name sheet job) = on_exercise name.now (sheet_named sheet) job
 making_task (OnMixed name sheet named job) = on_mixed name.now (sheet_named sheet) named job
 making_task (Check name certificate sheet) = check name.now certificate.now (sheet_named sheet)
-making_task (Explain name) = explain name.now
+making_task (Explain name subject) = explain name.now subject
 making_task (FromSmf name head) = fromsmf name.now head
 making_task (Drill number by_sharper) = drill number by_sharper
 making_task (MarkAnswer name lesson) = mark_answer name.now lesson.now
@@ -75,6 +77,12 @@ pub record AreNamed (named : List (Option ℕ)) : Type 0 where
   pub four : length named ≡ 4
   pub each : (v : ℕ) → IfSome (slice_index_or named v None) (λ species. (2 ≤ species) × (species ≤ 5))
 
+-- the species that a subject names, where it names some
+abbrev pub IsNamedSubject : Subject → Type 0
+IsNamedSubject (subject.Mixed named) = AreNamed named
+IsNamedSubject subject.Setting = Unit {0}
+IsNamedSubject subject.Cantus = Unit {0}
+
 -- what is asked of a new cantus is within the limits
 pub record IsWanted (wanted : Wanted) : Type 0 where
   pub fewest : 3 ≤ wanted.bars
@@ -85,6 +93,7 @@ pub record IsWanted (wanted : Wanted) : Type 0 where
 -- 5, and what it asks of a new cantus is within the limits
 abbrev pub HasMidiHead : Making → Type 0
 HasMidiHead (OnMixed name sheet named job) = AreNamed named
+HasMidiHead (Explain name subject) = IsNamedSubject subject
 HasMidiHead (FromSmf name head) = IsHead head
 HasMidiHead (NewCantus wanted sheet budget) = IsWanted wanted
 HasMidiHead (CheckCantus wanted certificate sheet) = IsWanted wanted
@@ -180,9 +189,6 @@ check_asked rows = do
 abbrev pub job_asked : Job → List Row → Option Task
 job_asked job rows = first_of (codes "EX") rows >>= λ name. Some (on_exercise name None job)
 
-abbrev pub explain_asked : List Row → Option Task
-explain_asked rows = first_of (codes "FILE") rows >>= λ name. Some (explain name)
-
 abbrev pub from_smf_asked : List Row → Option Task
 from_smf_asked rows = do
   name ← first_of (codes "FILE") rows
@@ -244,6 +250,20 @@ named_in list =
     let fourth = said_of 3 third.1 in
     if not (length list == 0) && (length fourth.1 == 0) then Some (first.0 ∷ second.0 ∷ third.0 ∷ fourth.0 ∷ [])
     else None
+
+-- what is to be explained: the setting, by the rules of the exercise or with the species that a
+-- list names, or the cantus firmus alone, beside which there is no list
+abbrev pub subject_in : Option Text → Bool → Option Subject
+subject_in None false = Some subject.Setting
+subject_in None true = Some subject.Cantus
+subject_in (Some list) false = option_map (λ named. subject.Mixed named) (named_in list)
+subject_in (Some list) true = None
+
+abbrev pub explain_asked : List Row → Option Task
+explain_asked rows = do
+  name ← first_of (codes "FILE") rows
+  subject ← subject_in (first_of (codes "with") rows) (is_set (codes "cantus") rows)
+  Some (explain name subject)
 
 abbrev pub mixed_asked : List Row → Option Task
 mixed_asked rows = do

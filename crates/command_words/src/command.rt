@@ -62,6 +62,17 @@ pub enum MixedJob {
 /// The species that is named for each of the four voices.
 pub type Named = [Option<u8>; 4];
 
+/// What of an exercise is to be explained.
+#[derive(Clone, Copy)]
+pub enum Subject {
+    /// The marks of its setting, or without one what it asks.
+    Setting,
+    /// The same with the species that are named for its voices.
+    Mixed { named: Named },
+    /// The marks of its cantus firmus.
+    Cantus,
+}
+
 /// What is asked of a new cantus.
 #[derive(Clone, Copy)]
 pub struct Wanted {
@@ -100,9 +111,10 @@ pub enum Making<'a> {
         certificate: &'a str,
         sheet: Option<&'a str>,
     },
-    /// What is wrong with a text in a file, or with its setting.
+    /// What is wrong with a text in a file, or with this of its exercise.
     Explain {
         name: &'a str,
+        subject: Subject,
     },
     /// The note text of a MIDI file.
     FromSmf {

@@ -5,9 +5,9 @@ ghost use Rattle.clap.specs.Words.{first_of, found_of, rows_of};
 ghost use Rattle.fux_text.specs.Names.{mode_named};
 ghost use Rattle.smf_score.specs.Heads.{IsHead};
 ghost use Rattle.text_lines.specs.Numbers.{number_within};
-ghost use Rattle.command_words.specs.Commands.{AreNamed, HasHead, HasMidiHead, IsWanted, against_in, asks, best_asked, budget_in, canon_asked, certify_asked, certify_cantus_asked, check_asked, check_cantus_asked, class_asked, classing_of, compose_asked, drill_asked, explain_asked, form_in, from_smf_asked, head_in, is_item, is_set, job_asked, making_task, mark_asked, mark_mixed_asked, mark_picture_asked, mark_xml_asked, mark_xml_with, marked_picture_with, marking_of, mixed_asked, named_in, new_cantus_asked, number_at, picture_asked, print_asked, said_of, task_of, wanted_in, weigh_asked, weighing_with, wrap_in};
+ghost use Rattle.command_words.specs.Commands.{AreNamed, HasHead, HasMidiHead, IsNamedSubject, IsWanted, against_in, asks, best_asked, budget_in, canon_asked, certify_asked, certify_cantus_asked, check_asked, check_cantus_asked, class_asked, classing_of, compose_asked, drill_asked, explain_asked, form_in, from_smf_asked, head_in, is_item, is_set, job_asked, making_task, mark_asked, mark_mixed_asked, mark_picture_asked, mark_xml_asked, mark_xml_with, marked_picture_with, marking_of, mixed_asked, named_in, new_cantus_asked, number_at, picture_asked, print_asked, said_of, subject_in, task_of, wanted_in, weigh_asked, weighing_with, wrap_in};
 
-use crate::command::{Command, Job, Making, MixedJob, Named, Wanted};
+use crate::command::{Command, Job, Making, MixedJob, Named, Subject, Wanted};
 use crate::verbs::Verb;
 use cert_text::Form;
 use clap::ArgMatches;
@@ -223,13 +223,30 @@ fn print_asked<'a>(matches: &ArgMatches<'a>) -> Option<Command<'a>>
     Some(Command::Make(Making::OnExercise { name, sheet, job }))
 }
 
+/// What is to be explained: the setting, by the rules of the exercise or with the species that a
+/// list names, or the cantus firmus alone, beside which there is no list.
+fn subject_of(with: Option<&str>, is_alone: bool) -> Option<Subject>
+    ensures value { result ≡ subject_in (option_map (λ text. text.now) with.entry) is_alone }
+    ensures named { IfSome result IsNamedSubject }
+{
+    match (with, is_alone) {
+        (None, false) => Some(Subject::Setting),
+        (None, true) => Some(Subject::Cantus),
+        (Some(list), false) => Some(Subject::Mixed {
+            named: named_in(list)?,
+        }),
+        (Some(_), true) => None,
+    }
+}
+
 /// `explain`, on a file.
 fn explain_asked<'a>(matches: &ArgMatches<'a>) -> Option<Command<'a>>
     ensures asked { option_map task_of result ≡ explain_asked (rows_of (found_of matches.now)) }
     ensures head { IfSome result HasHead }
 {
     let name = value(matches, "FILE")?;
-    Some(Command::Make(Making::Explain { name }))
+    let subject = subject_of(value(matches, "with"), is_set(matches, "cantus"))?;
+    Some(Command::Make(Making::Explain { name, subject }))
 }
 
 /// `fromsmf`, on a MIDI file.

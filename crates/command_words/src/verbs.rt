@@ -113,6 +113,8 @@ pub enum Part {
     With,
     /// The same where it may be left out.
     MayWith,
+    /// The cantus firmus alone in place of the setting.
+    CantusAlone,
     /// The search that a setting is weighed against.
     Against,
     /// How many columns of a terminal a printed score has at most.
@@ -165,7 +167,7 @@ impl Verb {
             ),
             Verb::Check => ("check", &[Part::Exercise, Part::Certificate, Part::Sheet]),
             Verb::Mark => ("mark", &[Part::Exercise, Part::Lesson]),
-            Verb::Explain => ("explain", &[Part::File]),
+            Verb::Explain => ("explain", &[Part::File, Part::MayWith, Part::CantusAlone]),
             Verb::Cantus => ("cantus", &[Part::Exercise]),
             Verb::Print => ("print", &[Part::Exercise, Part::Wrap]),
             Verb::ToSmf => ("tosmf", &[Part::Exercise]),
@@ -266,7 +268,7 @@ impl Part {
             Part::Mode => "mode",
             Part::Species => "species",
             Part::Voice => "voice",
-            Part::Cantus => "cantus",
+            Part::Cantus | Part::CantusAlone => "cantus",
             Part::TopFirst => "top-first",
             Part::BySharper => "best",
         }
@@ -294,7 +296,7 @@ impl Part {
             | Part::Wrap
             | Part::Lesson => Kind::Option,
             Part::With | Part::Mode | Part::Species | Part::Voice | Part::Cantus => Kind::Needed,
-            Part::Penalty | Part::KeepGoing | Part::TopFirst | Part::BySharper => Kind::Flag,
+            Part::Penalty | Part::KeepGoing | Part::TopFirst | Part::BySharper | Part::CantusAlone => Kind::Flag,
         }
     }
 }

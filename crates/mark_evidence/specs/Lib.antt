@@ -1,3 +1,4 @@
+pub mod Alone
 pub mod Asked
 pub mod Evidence
 pub mod Explained

@@ -47,9 +47,9 @@ sung_first rule s v i =
     else (if rule == 25 then sung s v (previous_start s v i) i
     else None)
 
--- rules of the move to the note at the place
+-- rules of the move to the note at the place; that of the end of a cantus has the number 33
 abbrev pub is_of_a_move : ℕ → Bool
-is_of_a_move rule = (rule == 4) || (rule == 5) || (rule == 7) || (rule == 26)
+is_of_a_move rule = (rule == 4) || (rule == 5) || (rule == 7) || (rule == 26) || (rule == 33)
 
 -- what the lowest voice of a column and another one sound; where that is the lowest itself, the
 -- cantus and that one

@@ -1,14 +1,15 @@
 //! What explains an exercise.
 
 ghost use Rattle.std.specs.Prelude.{◌≡◌, IfOk};
-ghost use Rattle.fux_grid.specs.Exercises.{IsComplete, IsValid};
-ghost use Rattle.mark_evidence.specs.Explanations.{AreExplained, ExplainsExercise, ExplainsMarks, IsAsked};
+ghost use Rattle.fux_grid.specs.Exercises.{AreSpecies, IsComplete, IsValid, as_mixed};
+ghost use Rattle.mark_evidence.specs.Explanations.{AreExplained, ExplainsBy, ExplainsCantus, ExplainsExercise, ExplainsMarks, IsAsked};
 
+use crate::alone::lone_score;
 use crate::asking::asked;
 use crate::explaining::explained;
-use fux_grid::{Exercise, Score};
+use fux_grid::{Exercise, Score, mixed_as};
 use fux_pitch::Memory;
-use score_marker::{Mark, marks};
+use score_marker::{Mark, cantus_marks, marks};
 use std::alloc::Global;
 
 /// A text that explains an exercise.
@@ -64,4 +65,27 @@ pub fn explain(alloc: Global, ex: &Exercise) -> Result<Explanation, Memory>
         Some(score) => Ok(of_setting(alloc, ex, score)?),
         None => Ok(of_exercise(alloc, ex)?),
     }
+}
+
+/// What explains an exercise with these species of its voices.
+pub fn explain_mixed(alloc: Global, ex: &Exercise, species: [u8; 4]) -> Result<Explanation, Memory>
+    requires valid { IsValid ex.now }
+    requires species { AreSpecies ex.now species }
+    ensures { IfOk result (ExplainsBy (as_mixed ex.now species) ex.now.setting) }
+{
+    let mixed = mixed_as(ex, species);
+    match &ex.setting {
+        Some(score) => Ok(of_setting(alloc, &mixed, score)?),
+        None => Ok(of_exercise(alloc, &mixed)?),
+    }
+}
+
+/// What explains the marks of the cantus firmus of an exercise, read by itself.
+pub fn explain_cantus(alloc: Global, ex: &Exercise) -> Result<Explanation, Memory>
+    requires { IsValid ex.now }
+    ensures { IfOk result (ExplainsCantus ex.now) }
+{
+    let score = lone_score(alloc, ex)?;
+    let marks = cantus_marks(alloc, ex)?;
+    of_marks(alloc, ex, &score, &marks)
 }

@@ -2,6 +2,7 @@
 //! the break.
 #![tactic(auto)]
 
+mod alone;
 mod asking;
 mod columns;
 mod evidence;
@@ -20,4 +21,4 @@ mod words;
 
 pub use asking::asked;
 pub use explaining::explained;
-pub use explanation::{Explanation, explain};
+pub use explanation::{Explanation, explain, explain_cantus, explain_mixed};

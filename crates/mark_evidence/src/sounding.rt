@@ -99,7 +99,7 @@ pub fn sung_first(rule: u8, score: &Score, v: u8, i: usize) -> Option<(Pitch, Pi
 fn is_of_a_move(rule: u8) -> bool
     ensures { result ≡ words.is_of_a_move rule }
 {
-    rule == 4 || rule == 5 || rule == 7 || rule == 26
+    rule == 4 || rule == 5 || rule == 7 || rule == 26 || rule == 33
 }
 
 /// What the lowest voice of a column and another one sound; where that is the lowest itself, the

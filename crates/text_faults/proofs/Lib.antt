@@ -1,3 +1,5 @@
+pub mod FaultLines
 pub mod LineLoops
 pub mod RangeLemmas
 pub mod Rows
+pub mod Told

@@ -1,9 +1,9 @@
 -- What is told of the faults of a text.
-use Rattle.std.specs.Prelude.{ℕ, List, [], ◌∷◌, ◌++◌}
+use Rattle.std.specs.Prelude.{◌≡◌, ℕ, List, [], ◌∷◌, ◌++◌}
 use Rattle.std.specs.List.{flat_map}
 use Rattle.fux_text.specs.Faults.{text_fault}
 use Rattle.text_faults.specs.declared.found.FoundFault.{FoundFault}
-use Rattle.text_faults.specs.Below.{faults_from}
+use Rattle.text_faults.specs.Below.{AreFrom}
 use Rattle.text_faults.specs.Hints.{hint}
 use Rattle.text_faults.specs.MarkedLines.{line_at, marked_line}
 
@@ -23,6 +23,12 @@ told_in name fault line =
 unfoldable pub explained_fault : List ℕ → List ℕ → FoundFault → List ℕ
 explained_fault name bytes fault = told_in name fault (line_at fault.line bytes)
 
--- each fault of a text of this name, of which this is the first
-unfoldable pub explained_faults : List ℕ → List ℕ → FoundFault → List ℕ
-explained_faults name bytes first = flat_map (explained_fault name bytes) (faults_from first bytes)
+-- faults of a text of this name, one after the other
+abbrev pub explained_faults : List ℕ → List ℕ → List FoundFault → List ℕ
+explained_faults name bytes faults = flat_map (explained_fault name bytes) faults
+
+-- this tells the faults of a text of this name, of which the first is this one
+pub record TellsFaults (name bytes : List ℕ) (first : FoundFault) (told : List ℕ) : Type 0 where
+  pub faults : List FoundFault
+  pub all : AreFrom first bytes faults
+  pub is : told ≡ explained_faults name bytes faults

@@ -10,9 +10,10 @@ use Rattle.text_faults.specs.declared.known.Known.{Known}
 abbrev pub nothing_known : Known
 nothing_known = record { voices = most_voices; bars = None; species_voice = None; cantus_voice = None }
 
--- a number of bars is no 0
-abbrev pub HasBars : Known → Type 0
-HasBars known = IfSome known.bars (λ bars. 1 ≤ bars)
+-- a number of bars is no 0, and there are at most four voices
+pub record IsPossible (known : Known) : Type 0 where
+  pub bars : IfSome known.bars (λ bars. 1 ≤ bars)
+  pub voices : known.voices ≤ 4
 
 -- a voice, but not this one
 abbrev pub unless_it : Option ℕ → ℕ → Option ℕ

@@ -7,5 +7,9 @@ pub mod ItemHints
 pub mod Known
 pub mod MarkedLines
 pub mod Range
+pub mod Relax
 pub mod Sing
+pub mod Shown
+pub mod Slots
 pub mod WordTests
+pub mod Written

@@ -23,12 +23,8 @@ has byte text = list_any (λ b. b == byte) text
 unfoldable pub has_digit : List ℕ → Bool
 has_digit text = list_any (λ b. nat_le 48 b && nat_le b 57) text
 
--- a row of a table of sentences: a test of what stands somewhere, and what would be right where the
--- test holds
-abbrev pub Hint : Type 0
-Hint = (List ℕ → Bool) × List ℕ
-
--- the sentence of the first row that fits, or another one
-abbrev pub first_fit : List Hint → List ℕ → List ℕ → List ℕ
+-- the sentence of the first row of a table that fits, or another one: a row has a test of what
+-- stands somewhere, and what would be right where the test holds
+abbrev pub first_fit : {A : Type 0} → List ((List ℕ → Bool) × A) → A → List ℕ → A
 first_fit [] other text = other
 first_fit (row ∷ rows) other text = if row.0 text then row.1 else first_fit rows other text

@@ -1,12 +1,11 @@
 //! What is told of the faults of a text.
 
 ghost use Rattle.std.specs.Prelude.{◌≡◌, ◌++◌, IfOk, OnOk, string_bytes};
-ghost use Rattle.std.specs.List.{flat_map};
-ghost use Rattle.text_faults.specs.Explained.{explained_fault, explained_faults, hint_line, place_line};
+ghost use Rattle.text_faults.specs.Explained.{TellsFaults, explained_fault, explained_faults, hint_line, place_line};
 
 use crate::below::faults_from;
 use crate::found::FoundFault;
-use crate::hints::hint;
+use crate::hints::put_hint;
 use crate::marked_lines::{line_at, put_marked};
 use fux_pitch::Memory;
 use std::alloc::Global;
@@ -33,10 +32,15 @@ fn put_place(alloc: Global, out: &mut Vec<u8>, name: &str, fault: FoundFault) ->
 
 /// Appends the line that tells what would be right at a fault in a line.
 #[tactic(auto, unfolding(crate::specs::Explained::hint_line))]
-fn put_hint(out: &mut Vec<u8>, fault: FoundFault, line: &[u8]) -> Result<(), Memory>
+fn put_sentence(
+    alloc: Global,
+    out: &mut Vec<u8>,
+    fault: FoundFault,
+    line: &[u8],
+) -> Result<(), Memory>
     ensures { OnOk result (out.new.items ≡ out.old.items ++ hint_line fault line.now) }
 {
-    out.extend_from_slice(hint(fault, line).as_bytes())?;
+    put_hint(alloc, out, fault, line)?;
     out.push(b'\n')?;
     Ok(())
 }
@@ -56,7 +60,7 @@ fn put_fault(
     let line = line_at(bytes, fault.line);
     put_place(alloc, out, name, fault)?;
     put_marked(out, line, fault.column)?;
-    put_hint(out, fault, line)
+    put_sentence(alloc, out, fault, line)
 }
 
 /// Appends faults, one after the other.
@@ -68,7 +72,7 @@ fn put_faults(
     faults: &[FoundFault],
 ) -> Result<(), Memory>
     ensures { OnOk result (out.new.items ≡ out.old.items
-        ++ flat_map (explained_fault name.now bytes.now) faults.now) }
+        ++ explained_faults name.now bytes.now faults.now) }
 {
     for fault in faults {
         put_fault(alloc, out, name, bytes, *fault)?;
@@ -78,14 +82,13 @@ fn put_faults(
 
 /// What is told of a text of this name, of which the first fault is given: each of its faults, with
 /// its line, a caret below the place, and what would be right there.
-#[tactic(auto, unfolding(crate::specs::Explained::explained_faults))]
 pub fn explained_faults(
     alloc: Global,
     name: &str,
     bytes: &[u8],
     first: FoundFault,
 ) -> Result<Vec<u8>, Memory>
-    ensures { IfOk result (λ out. out.items ≡ explained_faults name.now bytes.now first) }
+    ensures { IfOk result (λ out. TellsFaults name.now bytes.now first out.items) }
 {
     let faults = faults_from(alloc, bytes, first)?;
     let mut out = Vec::new(alloc);

@@ -6,7 +6,7 @@ ghost use Rattle.text_lines.specs.Rows.{Row, row_in, told_at};
 ghost use Rattle.text_lines.specs.Words.{word_of, words_of};
 ghost use Rattle.fux_text.specs.GivenLines.{given_cells, given_held, given_named, given_run, given_said, is_tied, word_given};
 ghost use Rattle.text_faults.specs.Given.{given_judged, lone_given};
-ghost use Rattle.text_faults.specs.Known.{HasBars};
+ghost use Rattle.text_faults.specs.Known.{IsPossible};
 
 use crate::known::{Known, voice_but};
 use crate::sing::item_parts;
@@ -149,9 +149,9 @@ fn lone_given(
 /// Judges a `given` line, where the number of bars is known.
 #[tactic(auto, unfolding(crate::specs::Given::given_judged))]
 pub fn given_judged(alloc: Global, known: Known, words: Words<'_>) -> Result<Known, TextFault>
-    requires { HasBars known }
+    requires { IsPossible known }
     ensures value { Gives (λ x. x) result (given_judged known (words_of words.entry)) }
-    ensures bars { IfOk result HasBars }
+    ensures possible { IfOk result IsPossible }
 {
     let Some(bars) = known.bars else {
         return Ok(known);

@@ -7,7 +7,7 @@ ghost use Rattle.text_lines.specs.Words.{words_of};
 ghost use Rattle.fux_text.specs.Head.{mode_row, number_row, pitch_place, pitches_row, species_row};
 ghost use Rattle.fux_text.specs.Limits.{most_species, most_voices, newest_version};
 ghost use Rattle.text_faults.specs.HeadLines.{bars_judged, cantus_judged, lone_cantus, mode_judged, species_judged, version_judged, voices_judged};
-ghost use Rattle.text_faults.specs.Known.{HasBars};
+ghost use Rattle.text_faults.specs.Known.{IsPossible};
 
 use crate::known::{Known, voice_but};
 use fux_pitch::{Mode, Pitch};
@@ -21,6 +21,7 @@ fn number_in(words: Words<'_>, kind: TextKind, least: u8, most: u8) -> Result<u8
     ensures value { Gives (λ x. x) result
         (row_in (number_row kind least most) (words_of words.entry)) }
     ensures least { IfOk result (λ n. least ≤ n) }
+    ensures most { IfOk result (λ n. n ≤ most) }
 {
     let (number, words) = words.small_number(kind, least, most)?;
     words.done(TextKind::Word)?;
@@ -30,9 +31,9 @@ fn number_in(words: Words<'_>, kind: TextKind, least: u8, most: u8) -> Result<u8
 /// Judges a `fux` line.
 #[tactic(auto, unfolding(crate::specs::HeadLines::version_judged))]
 pub fn version_judged(known: Known, words: Words<'_>) -> Result<Known, TextFault>
-    requires { HasBars known }
+    requires { IsPossible known }
     ensures value { Gives (λ x. x) result (version_judged known (words_of words.entry)) }
-    ensures bars { IfOk result HasBars }
+    ensures possible { IfOk result IsPossible }
 {
     number_in(words, TextKind::Word, 1, 2)?;
     Ok(known)
@@ -54,9 +55,9 @@ fn mode_in(words: Words<'_>) -> Result<Mode, TextFault>
 /// Judges a `mode` line.
 #[tactic(auto, unfolding(crate::specs::HeadLines::mode_judged))]
 pub fn mode_judged(known: Known, words: Words<'_>) -> Result<Known, TextFault>
-    requires { HasBars known }
+    requires { IsPossible known }
     ensures value { Gives (λ x. x) result (mode_judged known (words_of words.entry)) }
-    ensures bars { IfOk result HasBars }
+    ensures possible { IfOk result IsPossible }
 {
     mode_in(words)?;
     Ok(known)
@@ -65,9 +66,9 @@ pub fn mode_judged(known: Known, words: Words<'_>) -> Result<Known, TextFault>
 /// Judges a `voices` line.
 #[tactic(auto, unfolding(crate::specs::HeadLines::voices_judged))]
 pub fn voices_judged(known: Known, words: Words<'_>) -> Result<Known, TextFault>
-    requires { HasBars known }
+    requires { IsPossible known }
     ensures value { Gives (λ x. x) result (voices_judged known (words_of words.entry)) }
-    ensures bars { IfOk result HasBars }
+    ensures possible { IfOk result IsPossible }
 {
     let voices = number_in(words, TextKind::Word, 2, 4)?;
     Ok(Known { voices, ..known })
@@ -76,9 +77,9 @@ pub fn voices_judged(known: Known, words: Words<'_>) -> Result<Known, TextFault>
 /// Judges a `bars` line.
 #[tactic(auto, unfolding(crate::specs::HeadLines::bars_judged))]
 pub fn bars_judged(known: Known, words: Words<'_>) -> Result<Known, TextFault>
-    requires { HasBars known }
+    requires { IsPossible known }
     ensures value { Gives (λ x. x) result (bars_judged known (words_of words.entry)) }
-    ensures bars { IfOk result HasBars }
+    ensures possible { IfOk result IsPossible }
 {
     let bars = number_in(words, TextKind::Bars, 3, 24)?;
     Ok(Known {
@@ -102,9 +103,9 @@ fn species_in(words: Words<'_>, voices: u8) -> Result<(u8, u8), TextFault>
 /// Judges a `species` line.
 #[tactic(auto, unfolding(crate::specs::HeadLines::species_judged))]
 pub fn species_judged(known: Known, words: Words<'_>) -> Result<Known, TextFault>
-    requires { HasBars known }
+    requires { IsPossible known }
     ensures value { Gives (λ x. x) result (species_judged known (words_of words.entry)) }
-    ensures bars { IfOk result HasBars }
+    ensures possible { IfOk result IsPossible }
 {
     let (_, voice) = species_in(words, known.voices)?;
     Ok(Known {
@@ -167,9 +168,9 @@ fn lone_cantus(
 /// Judges a `cantus` line, where the number of bars is known.
 #[tactic(auto, unfolding(crate::specs::HeadLines::cantus_judged))]
 pub fn cantus_judged(alloc: Global, known: Known, words: Words<'_>) -> Result<Known, TextFault>
-    requires { HasBars known }
+    requires { IsPossible known }
     ensures value { Gives (λ x. x) result (cantus_judged known (words_of words.entry)) }
-    ensures bars { IfOk result HasBars }
+    ensures possible { IfOk result IsPossible }
 {
     let Some(bars) = known.bars else {
         return Ok(known);

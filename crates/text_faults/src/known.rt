@@ -1,7 +1,7 @@
 //! What is known of an exercise where a line is judged by itself.
 
 ghost use Rattle.std.specs.Prelude.{◌≡◌};
-ghost use Rattle.text_faults.specs.Known.{nothing_known, voice_but};
+ghost use Rattle.text_faults.specs.Known.{IsPossible, nothing_known, voice_but};
 
 use text_lines::parse_within;
 
@@ -20,7 +20,8 @@ pub struct Known {
 
 /// What is known above the first line.
 pub fn nothing_known() -> Known
-    ensures { result ≡ nothing_known }
+    ensures value { result ≡ nothing_known }
+    ensures possible { IsPossible result }
 {
     Known {
         voices: 4,

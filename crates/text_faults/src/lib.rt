@@ -11,8 +11,12 @@ mod item_hints;
 mod known;
 mod marked_lines;
 mod range;
+mod relax;
+mod shown;
 mod sing;
+mod slots;
 mod word_tests;
+mod written;
 
 pub use below::faults_from;
 pub use explained::explained_faults;

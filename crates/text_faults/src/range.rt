@@ -5,7 +5,7 @@ ghost use Rattle.text_lines.specs.Faults.{Gives};
 ghost use Rattle.text_lines.specs.Rows.{place_in, row_in};
 ghost use Rattle.text_lines.specs.Words.{words_of};
 ghost use Rattle.fux_text.specs.Ranges.{bars_row, high_place};
-ghost use Rattle.text_faults.specs.Known.{HasBars};
+ghost use Rattle.text_faults.specs.Known.{IsPossible};
 ghost use Rattle.text_faults.specs.Range.{bars_of, free_place, has_bars, lone_range, range_behind, range_judged};
 
 use crate::head_lines::pitch_in;
@@ -86,7 +86,7 @@ fn voice_in(known: Known, words: Words<'_>) -> Result<(u8, Words<'_>), TextFault
 }
 
 /// How many bars there are, or may be.
-fn bars_of(bars: Option<u8>) -> u8
+pub fn bars_of(bars: Option<u8>) -> u8
     ensures { result ≡ bars_of bars }
 {
     match bars {
@@ -124,9 +124,9 @@ fn lone_range(known: Known, words: Words<'_>, bars: u8, later: bool) -> Result<R
 /// Judges a range line.
 #[tactic(auto, unfolding(crate::specs::Range::range_judged))]
 pub fn range_judged(known: Known, words: Words<'_>) -> Result<Known, TextFault>
-    requires { HasBars known }
+    requires { IsPossible known }
     ensures value { Gives (λ x. x) result (range_judged known (words_of words.entry)) }
-    ensures bars { IfOk result HasBars }
+    ensures possible { IfOk result IsPossible }
 {
     lone_range(known, words, bars_of(known.bars), has_bars(words))?;
     Ok(known)

@@ -8,7 +8,7 @@ ghost use Rattle.text_lines.specs.Rows.{Row, row_in, told_at};
 ghost use Rattle.text_lines.specs.Words.{word_of, words_of};
 ghost use Rattle.fux_text.specs.declared.item_words.ItemName.TheVariants.{Tie};
 ghost use Rattle.fux_text.specs.Sing.{bar_line_said, ended, first_cell, held, is_colon, is_full, item_cells, item_parts, item_said, latest, sung_end, sung_run, sung_word};
-ghost use Rattle.text_faults.specs.Known.{HasBars};
+ghost use Rattle.text_faults.specs.Known.{IsPossible};
 ghost use Rattle.text_lines.specs.Numbers.{if_within};
 ghost use Rattle.text_faults.specs.Sing.{cell_said, lone_sing, sing_judged, tie_said};
 
@@ -245,9 +245,9 @@ fn lone_sing(
 /// Judges a `sing` line, where the number of bars is known.
 #[tactic(auto, unfolding(crate::specs::Sing::sing_judged))]
 pub fn sing_judged(alloc: Global, known: Known, words: Words<'_>) -> Result<Known, TextFault>
-    requires { HasBars known }
+    requires { IsPossible known }
     ensures value { Gives (λ x. x) result (sing_judged known (words_of words.entry)) }
-    ensures bars { IfOk result HasBars }
+    ensures possible { IfOk result IsPossible }
 {
     let Some(bars) = known.bars else {
         return Ok(known);

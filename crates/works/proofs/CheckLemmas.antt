@@ -135,7 +135,7 @@ output_is_there (check ex certificate sheet) files name [] output made one missi
 output_is_there (on_exercise ex sheet job) files name bytes output made one missing = omega (arith, one.1)
 output_is_there (on_mixed ex sheet named job) files name bytes output made one missing = omega (arith, one.1)
 output_is_there (certify ex sheet budget form) files name bytes output made one missing = omega (arith, one.1)
-output_is_there (explain file) files name bytes output made one missing = omega (arith, one.1)
+output_is_there (explain file subject) files name bytes output made one missing = omega (arith, one.1)
 output_is_there (fromsmf file head) files name bytes output made one missing = omega (arith, one.1)
 output_is_there (drill number by_sharper) files name bytes output made one missing = omega (arith, one.1)
 output_is_there (mark_answer file lesson) files name bytes output made one missing = omega (arith, one.1)
@@ -250,7 +250,7 @@ not_refused (class_report list) files (text ∷ more ∷ bytes) refusal made rea
 not_refused (on_exercise ex sheet job) files bytes refusal made ready = ready
 not_refused (on_mixed ex sheet named job) files bytes refusal made ready = ready
 not_refused (certify ex sheet budget form) files bytes refusal made ready = ready
-not_refused (explain file) files bytes refusal made ready = ready
+not_refused (explain file subject) files bytes refusal made ready = ready
 not_refused (fromsmf file head) files bytes refusal made ready = ready
 not_refused (drill number by_sharper) files bytes refusal made ready = ready
 not_refused (mark_answer file lesson) files bytes refusal made ready = ready

@@ -10,6 +10,7 @@ use Rattle.works.specs.Complaints.{name_text}
 use Rattle.works.specs.declared.complaint.Complaint.TheVariants.{Usage, Refused, Unreadable, Unwritable, OutOfMemory}
 use Rattle.class_marker.specs.declared.one.Text.{Text as Content}
 use Rattle.command_words.specs.declared.command.Job.{Job}
+use Rattle.command_words.specs.declared.command.Subject.{Subject}
 use Rattle.works.specs.declared.work.Output.{Output}
 use Rattle.works.specs.declared.work.Stop.{Stop}
 use Rattle.works.specs.declared.work.Stop.TheVariants as stop
@@ -91,16 +92,16 @@ of_one files name head file (Err (stop.Refused refusal)) made [] content = absur
 of_one files name head file (Ok output) made (bytes ∷ more ∷ all) content = absurd content.1
 of_one files name head file (Err (stop.Refused refusal)) made (bytes ∷ more ∷ all) content = absurd content.1
 
-pub of_text : (files : Files) (name : List ℕ) (file : Content) (answer : Result Output Stop)
-    → ((bytes : List ℕ) → IsContent 65536 file bytes → Answers (Explains name bytes) answer)
-    → (all : List (List ℕ)) → AreContents 65536 (file ∷ []) all → Answers (Makes (explain name) files all) answer
-of_text files name file (Ok output) made (bytes ∷ []) content = made bytes content.0
-of_text files name file (Err (stop.Refused refusal)) made (bytes ∷ []) content = made bytes content.0
-of_text files name file (Err stop.Memory) made all content = tt
-of_text files name file (Ok output) made [] content = absurd content
-of_text files name file (Err (stop.Refused refusal)) made [] content = absurd content
-of_text files name file (Ok output) made (bytes ∷ more ∷ all) content = absurd content.1
-of_text files name file (Err (stop.Refused refusal)) made (bytes ∷ more ∷ all) content = absurd content.1
+pub of_text : (files : Files) (name : List ℕ) (subject : Subject) (file : Content) (answer : Result Output Stop)
+    → ((bytes : List ℕ) → IsContent 65536 file bytes → Answers (Explains subject name bytes) answer)
+    → (all : List (List ℕ)) → AreContents 65536 (file ∷ []) all → Answers (Makes (explain name subject) files all) answer
+of_text files name subject file (Ok output) made (bytes ∷ []) content = made bytes content.0
+of_text files name subject file (Err (stop.Refused refusal)) made (bytes ∷ []) content = made bytes content.0
+of_text files name subject file (Err stop.Memory) made all content = tt
+of_text files name subject file (Ok output) made [] content = absurd content
+of_text files name subject file (Err (stop.Refused refusal)) made [] content = absurd content
+of_text files name subject file (Ok output) made (bytes ∷ more ∷ all) content = absurd content.1
+of_text files name subject file (Err (stop.Refused refusal)) made (bytes ∷ more ∷ all) content = absurd content.1
 
 pub of_none : (files : Files) (number : ℕ) (by_sharper : Bool) (answer : Result Output Stop)
     → Answers (Drills number by_sharper) answer

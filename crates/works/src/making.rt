@@ -80,9 +80,9 @@ pub fn make<'a, F: Shelf, R: Threads + Sync>(
                 check_texts(rt, alloc, &text, &weights, shelf, certificate),
             )
         }
-        Making::Explain { name } => {
+        Making::Explain { name, subject } => {
             let text = read_content(alloc, shelf, name, LONGEST_TEXT)?;
-            said(alloc, name, explain(alloc, name, &text))
+            said(alloc, name, explain(alloc, name, &subject, &text))
         }
         Making::FromSmf { name, head } => {
             let file = read_content(alloc, shelf, name, LONGEST_MIDI)?;

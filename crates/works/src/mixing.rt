@@ -88,7 +88,7 @@ fn of_texts(
 }
 
 /// The species of each voice, or a refusal of the first that may not be named.
-fn species_of(exercise: &Exercise, named: &Named) -> Result<[u8; 4], Stop>
+pub fn species_of(exercise: &Exercise, named: &Named) -> Result<[u8; 4], Stop>
     requires valid { IsValid exercise.now }
     requires named { AreNamed named.now }
     ensures { NamesSpecies exercise.now named.now result }

@@ -91,10 +91,11 @@ returns-in_ok-weights-in-Check-clause-made g c =
 pub returns-in_ok-text-in-Explain-clause-made : goal.returns-in_ok-text-in-Explain-clause-made
 returns-in_ok-text-in-Explain-clause-made g c =
     let name = c.in-Explain.name.now in
+    let subject = c.in-Explain.subject in
     let text = c.in_ok-text-in-Explain.text in
-    rw c.in-Explain.is (made_said (explain name) (g.F.Shelf.files c.args.shelf.now) _ (text ∷ []) c.explain.result
+    rw c.in-Explain.is (made_said (explain name subject) (g.F.Shelf.files c.args.shelf.now) _ (text ∷ []) c.explain.result
     c.said-in-Explain.result (c.in_ok-text-in-Explain.ensures.reads, tt)
-    (of_text (g.F.Shelf.files c.args.shelf.now) name text c.explain.result c.explain.ensures)
+    (of_text (g.F.Shelf.files c.args.shelf.now) name subject text c.explain.result c.explain.ensures)
     c.said-in-Explain.ensures.says)
 
 pub returns-in_ok-file-in-FromSmf-clause-made : goal.returns-in_ok-file-in-FromSmf-clause-made
