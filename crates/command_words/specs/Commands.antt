@@ -14,13 +14,14 @@ use Rattle.text_lines.specs.Numbers.{number_within}
 use Rattle.command_words.specs.declared.command.Command.{Command}
 use Rattle.command_words.specs.declared.command.Command.TheVariants.{Certify, CertifyCantus, Make, WholeClass}
 use Rattle.command_words.specs.declared.command.Job.{Job}
-use Rattle.command_words.specs.declared.command.Job.TheVariants.{Compose, Best, Mark, Weigh, Cantus, Print, ToSmf, ToXml, MarkXml, Picture, MarkPicture}
+use Rattle.command_words.specs.declared.command.Job.TheVariants.{Compose, Best, Mark, Weigh, Cantus, Print, ToSmf, ToXml, MarkXml, Picture, MarkPicture, ComposeNth}
 use Rattle.command_words.specs.declared.command.MixedJob.{MixedJob}
 use Rattle.command_words.specs.declared.command.MixedJob.TheVariants as mixed
 use Rattle.command_words.specs.declared.command.Making.{Making}
 use Rattle.command_words.specs.declared.command.Making.TheVariants.{OnExercise, OnMixed, Check, FromSmf, Drill, MarkAnswer, Class, Canon, NewCantus, CheckCantus, Explain}
 use Rattle.command_words.specs.declared.command.Subject.{Subject}
 use Rattle.command_words.specs.declared.command.Subject.TheVariants as subject
+use Rattle.command_words.specs.declared.command.Search.{Search}
 use Rattle.command_words.specs.declared.command.Wanted.{Wanted}
 use Rattle.command_words.specs.declared.verbs.Verb.{Verb}
 use Rattle.command_words.specs.declared.verbs.Verb.TheVariants as verb
@@ -43,8 +44,8 @@ pub data Task : Type 0 where
   mark_answer : (name lesson : Text) → Task
   class_report : (list : Text) → Task
   whole_class : (list : Text) (lesson : Option Text) → Task
-  find_canon : (name : Text) (sheet : Option Text) (budget : ℕ) → Task
-  find_cantus : (wanted : Wanted) (sheet : Option Text) (budget : ℕ) → Task
+  find_canon : (name : Text) (sheet : Option Text) (search : Search) → Task
+  find_cantus : (wanted : Wanted) (sheet : Option Text) (search : Search) → Task
   certify_cantus : (wanted : Wanted) (sheet : Option Text) (budget : ℕ) → Task
   check_cantus : (wanted : Wanted) (certificate : Text) (sheet : Option Text) → Task
 
@@ -62,8 +63,8 @@ making_task (FromSmf name head) = fromsmf name.now head
 making_task (Drill number by_sharper) = drill number by_sharper
 making_task (MarkAnswer name lesson) = mark_answer name.now lesson.now
 making_task (Class list) = class_report list.now
-making_task (Canon name sheet budget) = find_canon name.now (sheet_named sheet) budget
-making_task (NewCantus wanted sheet budget) = find_cantus wanted (sheet_named sheet) budget
+making_task (Canon name sheet search) = find_canon name.now (sheet_named sheet) search
+making_task (NewCantus wanted sheet search) = find_cantus wanted (sheet_named sheet) search
 making_task (CheckCantus wanted certificate sheet) = check_cantus wanted certificate.now (sheet_named sheet)
 
 abbrev pub task_of : Command → Task
@@ -95,7 +96,7 @@ abbrev pub HasMidiHead : Making → Type 0
 HasMidiHead (OnMixed name sheet named job) = AreNamed named
 HasMidiHead (Explain name subject) = IsNamedSubject subject
 HasMidiHead (FromSmf name head) = IsHead head
-HasMidiHead (NewCantus wanted sheet budget) = IsWanted wanted
+HasMidiHead (NewCantus wanted sheet search) = IsWanted wanted
 HasMidiHead (CheckCantus wanted certificate sheet) = IsWanted wanted
 HasMidiHead _ = Unit {0}
 
@@ -129,6 +130,23 @@ number_at id least most rows = first_of id rows >>= number_within least most
 abbrev pub budget_in : Option Text → Option ℕ
 budget_in None = Some 1000000
 budget_in (Some text) = number_within 1 4000000 text
+
+-- how many come before the one of a number, where it isn't the first
+abbrev pub before_nth : ℕ → Option ℕ
+before_nth nth = if nth == 1 then None else Some (nth - 1)
+
+-- how many come before the one that is sought, by the word of its number, 1 to 10,000: the number 1
+-- asks for what is sought where there is no word
+abbrev pub before_in : Option Text → Option (Option ℕ)
+before_in None = Some None
+before_in (Some text) = option_map before_nth (number_within 1 10000 text)
+
+-- what a search is asked for
+abbrev pub search_in : List Row → Option Search
+search_in rows = do
+  budget ← budget_in (first_of (codes "budget") rows)
+  before ← before_in (first_of (codes "nth") rows)
+  Some (record { budget = budget; before = before })
 
 -- the form: 1 or 2, and the second where none is given
 abbrev pub form_in : Option Text → Option Form
@@ -166,8 +184,19 @@ search_asked job rows = do
   budget ← budget_in (first_of (codes "budget") rows)
   Some (on_exercise name (first_of (codes "sheet") rows) (job budget))
 
+-- the best setting, or the one of a number
+abbrev pub composing_within : ℕ → Option ℕ → Job
+composing_within budget None = Compose budget
+composing_within budget (Some before) = ComposeNth before budget
+
+abbrev pub composing : Search → Job
+composing search = composing_within search.budget search.before
+
 abbrev pub compose_asked : List Row → Option Task
-compose_asked rows = search_asked (λ budget. Compose budget) rows
+compose_asked rows = do
+  name ← first_of (codes "EX") rows
+  search ← search_in rows
+  Some (on_exercise name (first_of (codes "sheet") rows) (composing search))
 
 abbrev pub best_asked : List Row → Option Task
 best_asked rows = search_asked (λ budget. Best budget) rows
@@ -221,8 +250,8 @@ class_asked rows = do
 abbrev pub canon_asked : List Row → Option Task
 canon_asked rows = do
   name ← first_of (codes "FILE") rows
-  budget ← budget_in (first_of (codes "budget") rows)
-  Some (find_canon name (first_of (codes "sheet") rows) budget)
+  search ← search_in rows
+  Some (find_canon name (first_of (codes "sheet") rows) search)
 
 -- three bytes are an item `V:N` of a voice: its digit, a colon, and the digit of a species from 2
 -- to 5
@@ -348,8 +377,8 @@ wanted_in rows = do
 abbrev pub new_cantus_asked : List Row → Option Task
 new_cantus_asked rows = do
   wanted ← wanted_in rows
-  budget ← budget_in (first_of (codes "budget") rows)
-  Some (find_cantus wanted (first_of (codes "sheet") rows) budget)
+  search ← search_in rows
+  Some (find_cantus wanted (first_of (codes "sheet") rows) search)
 
 abbrev pub certify_cantus_asked : List Row → Option Task
 certify_cantus_asked rows = do

@@ -20,7 +20,7 @@ verbs =
 
 -- the row of a command: its first word, and what it takes behind that
 abbrev pub row_of : Verb → Text × List Part
-row_of verb.Compose = (codes "compose", part.Exercise ∷ part.Sheet ∷ part.Budget ∷ [])
+row_of verb.Compose = (codes "compose", part.Exercise ∷ part.Sheet ∷ part.Budget ∷ part.Nth ∷ [])
 row_of verb.Best = (codes "best", part.Exercise ∷ part.Sheet ∷ part.Budget ∷ [])
 row_of verb.Certify = (codes "certify", part.Exercise ∷ part.Sheet ∷ part.Budget ∷ part.Form ∷ [])
 row_of verb.Check = (codes "check", part.Exercise ∷ part.Certificate ∷ part.Sheet ∷ [])
@@ -32,7 +32,7 @@ row_of verb.ToSmf = (codes "tosmf", part.Exercise ∷ [])
 row_of verb.FromSmf = (codes "fromsmf", part.File ∷ part.Mode ∷ part.Species ∷ part.Voice ∷ part.Cantus ∷ part.TopFirst ∷ [])
 row_of verb.Drill = (codes "drill", part.Number ∷ part.BySharper ∷ [])
 row_of verb.Class = (codes "class", part.List ∷ part.Lesson ∷ part.KeepGoing ∷ [])
-row_of verb.Canon = (codes "canon", part.File ∷ part.Sheet ∷ part.Budget ∷ [])
+row_of verb.Canon = (codes "canon", part.File ∷ part.Sheet ∷ part.Budget ∷ part.Nth ∷ [])
 row_of verb.Mixed = (codes "mixed", part.Exercise ∷ part.Sheet ∷ part.Budget ∷ part.With ∷ [])
 row_of verb.MarkMixed = (codes "markmixed", part.Exercise ∷ part.With ∷ [])
 row_of verb.Weigh = (codes "weigh", part.Exercise ∷ part.Sheet ∷ part.Budget ∷ part.MayWith ∷ part.Against ∷ [])
@@ -40,7 +40,7 @@ row_of verb.ToXml = (codes "toxml", part.Exercise ∷ [])
 row_of verb.MarkXml = (codes "markxml", part.Exercise ∷ part.MayWith ∷ [])
 row_of verb.Picture = (codes "picture", part.Exercise ∷ part.Sheet ∷ part.Penalty ∷ [])
 row_of verb.MarkPicture = (codes "markpicture", part.Exercise ∷ part.MayWith ∷ [])
-row_of verb.NewCantus = (codes "newcantus", part.InMode ∷ part.Bars ∷ part.Low ∷ part.High ∷ part.Sheet ∷ part.Budget ∷ [])
+row_of verb.NewCantus = (codes "newcantus", part.InMode ∷ part.Bars ∷ part.Low ∷ part.High ∷ part.Sheet ∷ part.Budget ∷ part.Nth ∷ [])
 row_of verb.CertCantus = (codes "certcantus", part.InMode ∷ part.Bars ∷ part.Low ∷ part.High ∷ part.Sheet ∷ part.Budget ∷ [])
 row_of verb.CheckCantus = (codes "checkcantus", part.InMode ∷ part.Bars ∷ part.Low ∷ part.High ∷ part.Certificate ∷ part.Sheet ∷ [])
 
@@ -57,6 +57,7 @@ name_of part.Low = codes "LOW"
 name_of part.High = codes "HIGH"
 name_of part.Sheet = codes "sheet"
 name_of part.Budget = codes "budget"
+name_of part.Nth = codes "nth"
 name_of part.Form = codes "form"
 name_of part.With = codes "with"
 name_of part.MayWith = codes "with"
@@ -86,6 +87,7 @@ kind_of part.Low = kind.Word
 kind_of part.High = kind.Word
 kind_of part.Sheet = kind.Option
 kind_of part.Budget = kind.Option
+kind_of part.Nth = kind.Option
 kind_of part.Form = kind.Option
 kind_of part.With = kind.Needed
 kind_of part.MayWith = kind.Option

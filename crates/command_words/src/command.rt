@@ -21,6 +21,8 @@ pub enum Job {
     Compose { budget: u32 },
     /// The same, found by sharper floors.
     Best { budget: u32 },
+    /// The setting before which so many come, in order of penalty and then of reading.
+    ComposeNth { before: u16, budget: u32 },
     /// The marks of its setting.
     Mark,
     /// What its setting breaks and pays for; and how far that is from the best penalty, where there
@@ -85,6 +87,15 @@ pub struct Wanted {
     pub high: Pitch,
 }
 
+/// What a search is asked for.
+#[derive(Clone, Copy)]
+pub struct Search {
+    pub budget: u32,
+    /// How many come before the one that is sought, in order of penalty and then of reading, where
+    /// it isn't the first.
+    pub before: Option<u16>,
+}
+
 /// What is to be made whole before any of it is written, and the names of the files that it is to
 /// be made of.
 #[derive(Clone, Copy)]
@@ -135,19 +146,19 @@ pub enum Making<'a> {
     Class {
         list: &'a str,
     },
-    /// The best of the canons that the text in a file asks for, found within this budget, over the
+    /// The best of the canons that the text in a file asks for, or the one of a number, over the
     /// sheet of weights in another where one is named.
     Canon {
         name: &'a str,
         sheet: Option<&'a str>,
-        budget: u32,
+        search: Search,
     },
-    /// The best new cantus, found within this budget, over the sheet of weights in a file where one
+    /// The best new cantus, or the one of a number, over the sheet of weights in a file where one
     /// is named.
     NewCantus {
         wanted: Wanted,
         sheet: Option<&'a str>,
-        budget: u32,
+        search: Search,
     },
     /// The verdict on the certificate in a file, for what is asked of a cantus and the sheet of
     /// weights in another file where one is named.

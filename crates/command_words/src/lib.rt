@@ -6,4 +6,4 @@ mod forms;
 mod values;
 mod verbs;
 
-pub use command::{Command, Job, Making, MixedJob, Named, Subject, Wanted, parse};
+pub use command::{Command, Job, Making, MixedJob, Named, Search, Subject, Wanted, parse};

@@ -5,9 +5,9 @@ ghost use Rattle.clap.specs.Words.{first_of, found_of, rows_of};
 ghost use Rattle.fux_text.specs.Names.{mode_named};
 ghost use Rattle.smf_score.specs.Heads.{IsHead};
 ghost use Rattle.text_lines.specs.Numbers.{number_within};
-ghost use Rattle.command_words.specs.Commands.{AreNamed, HasHead, HasMidiHead, IsNamedSubject, IsWanted, against_in, asks, best_asked, budget_in, canon_asked, certify_asked, certify_cantus_asked, check_asked, check_cantus_asked, class_asked, classing_of, compose_asked, drill_asked, explain_asked, form_in, from_smf_asked, head_in, is_item, is_set, job_asked, making_task, mark_asked, mark_mixed_asked, mark_picture_asked, mark_xml_asked, mark_xml_with, marked_picture_with, marking_of, mixed_asked, named_in, new_cantus_asked, number_at, picture_asked, print_asked, said_of, subject_in, task_of, wanted_in, weigh_asked, weighing_with, wrap_in};
+ghost use Rattle.command_words.specs.Commands.{AreNamed, HasHead, HasMidiHead, IsNamedSubject, IsWanted, against_in, asks, before_in, before_nth, best_asked, budget_in, canon_asked, certify_asked, certify_cantus_asked, check_asked, check_cantus_asked, class_asked, classing_of, compose_asked, composing, drill_asked, explain_asked, form_in, from_smf_asked, head_in, is_item, is_set, job_asked, making_task, mark_asked, mark_mixed_asked, mark_picture_asked, mark_xml_asked, mark_xml_with, marked_picture_with, marking_of, mixed_asked, named_in, new_cantus_asked, number_at, picture_asked, print_asked, said_of, search_in, subject_in, task_of, wanted_in, weigh_asked, weighing_with, wrap_in};
 
-use crate::command::{Command, Job, Making, MixedJob, Named, Subject, Wanted};
+use crate::command::{Command, Job, Making, MixedJob, Named, Search, Subject, Wanted};
 use crate::verbs::Verb;
 use cert_text::Form;
 use clap::ArgMatches;
@@ -24,6 +24,9 @@ const GREATEST_BUDGET: u32 = 4_000_000;
 const LEAST_WRAP: u32 = 40;
 
 const GREATEST_WRAP: u32 = 1_000;
+
+/// The greatest number of one that is sought in order.
+const LAST_NTH: u32 = 10_000;
 
 /// The greatest number of a drill.
 const LAST_DRILL: u32 = 1_000_000;
@@ -67,6 +70,40 @@ fn budget_of(word: Option<&str>) -> Option<u32>
         Some(word) => number_within(word, 1, GREATEST_BUDGET),
         None => Some(USUAL_BUDGET),
     }
+}
+
+/// How many come before the one of a number, where it isn't the first.
+fn before_nth(nth: u32) -> Option<u16>
+    requires least { 0 < nth }
+    requires most { nth ≤ 10000 }
+    ensures { result ≡ before_nth nth }
+{
+    if nth == 1 {
+        None
+    } else {
+        Some((nth - 1) as u16)
+    }
+}
+
+/// How many come before the one of the number that a word gives, where it gives one that isn't the
+/// first.
+fn before_of(word: Option<&str>) -> Option<Option<u16>>
+    ensures { result ≡ before_in (option_map (λ text. text.now) word.entry) }
+{
+    let Some(word) = word else {
+        return Some(None);
+    };
+    let nth = number_within(word, 1, LAST_NTH)?;
+    Some(before_nth(nth))
+}
+
+/// What a search is asked for.
+fn search_of(matches: &ArgMatches<'_>) -> Option<Search>
+    ensures { result ≡ search_in (rows_of (found_of matches.now)) }
+{
+    let budget = budget_of(value(matches, "budget"))?;
+    let before = before_of(value(matches, "nth"))?;
+    Some(Search { budget, before })
 }
 
 /// The form that a word gives, or the second where there is none.
@@ -135,15 +172,26 @@ fn head_of(matches: &ArgMatches<'_>) -> Option<Head>
     })
 }
 
+/// The best setting, or the one before which so many come.
+fn composing(search: Search) -> Job
+    ensures { result ≡ composing search }
+{
+    let budget = search.budget;
+    match search.before {
+        None => Job::Compose { budget },
+        Some(before) => Job::ComposeNth { before, budget },
+    }
+}
+
 /// `compose`, on the exercise of a file.
 fn compose_asked<'a>(matches: &ArgMatches<'a>) -> Option<Command<'a>>
     ensures asked { option_map task_of result ≡ compose_asked (rows_of (found_of matches.now)) }
     ensures head { IfSome result HasHead }
 {
     let name = value(matches, "EX")?;
-    let budget = budget_of(value(matches, "budget"))?;
+    let search = search_of(matches)?;
     let sheet = value(matches, "sheet");
-    let job = Job::Compose { budget };
+    let job = composing(search);
     Some(Command::Make(Making::OnExercise { name, sheet, job }))
 }
 
@@ -324,12 +372,12 @@ fn canon_asked<'a>(matches: &ArgMatches<'a>) -> Option<Command<'a>>
     ensures head { IfSome result HasHead }
 {
     let name = value(matches, "FILE")?;
-    let budget = budget_of(value(matches, "budget"))?;
+    let search = search_of(matches)?;
     let sheet = value(matches, "sheet");
     Some(Command::Make(Making::Canon {
         name,
         sheet,
-        budget,
+        search,
     }))
 }
 
@@ -569,12 +617,12 @@ fn new_cantus_asked<'a>(matches: &ArgMatches<'a>) -> Option<Command<'a>>
     ensures head { IfSome result HasHead }
 {
     let wanted = wanted_of(matches)?;
-    let budget = budget_of(value(matches, "budget"))?;
+    let search = search_of(matches)?;
     let sheet = value(matches, "sheet");
     Some(Command::Make(Making::NewCantus {
         wanted,
         sheet,
-        budget,
+        search,
     }))
 }
 

@@ -107,6 +107,8 @@ pub enum Part {
     Sheet,
     /// The budget of a search.
     Budget,
+    /// Which one is sought, in order.
+    Nth,
     /// The form of a certificate.
     Form,
     /// The species of voices, as a list.
@@ -159,7 +161,10 @@ impl Verb {
         ensures parts { result.1.now ≡ (row_of self).1 }
     {
         match self {
-            Verb::Compose => ("compose", &[Part::Exercise, Part::Sheet, Part::Budget]),
+            Verb::Compose => (
+                "compose",
+                &[Part::Exercise, Part::Sheet, Part::Budget, Part::Nth],
+            ),
             Verb::Best => ("best", &[Part::Exercise, Part::Sheet, Part::Budget]),
             Verb::Certify => (
                 "certify",
@@ -184,7 +189,7 @@ impl Verb {
             ),
             Verb::Drill => ("drill", &[Part::Number, Part::BySharper]),
             Verb::Class => ("class", &[Part::List, Part::Lesson, Part::KeepGoing]),
-            Verb::Canon => ("canon", &[Part::File, Part::Sheet, Part::Budget]),
+            Verb::Canon => ("canon", &[Part::File, Part::Sheet, Part::Budget, Part::Nth]),
             Verb::Mixed => (
                 "mixed",
                 &[Part::Exercise, Part::Sheet, Part::Budget, Part::With],
@@ -213,6 +218,7 @@ impl Verb {
                     Part::High,
                     Part::Sheet,
                     Part::Budget,
+                    Part::Nth,
                 ],
             ),
             Verb::CertCantus => (
@@ -258,6 +264,7 @@ impl Part {
             Part::High => "HIGH",
             Part::Sheet => "sheet",
             Part::Budget => "budget",
+            Part::Nth => "nth",
             Part::Form => "form",
             Part::With | Part::MayWith => "with",
             Part::Against => "against",
@@ -290,13 +297,18 @@ impl Part {
             | Part::High => Kind::Word,
             Part::Sheet
             | Part::Budget
+            | Part::Nth
             | Part::Form
             | Part::MayWith
             | Part::Against
             | Part::Wrap
             | Part::Lesson => Kind::Option,
             Part::With | Part::Mode | Part::Species | Part::Voice | Part::Cantus => Kind::Needed,
-            Part::Penalty | Part::KeepGoing | Part::TopFirst | Part::BySharper | Part::CantusAlone => Kind::Flag,
+            Part::Penalty
+            | Part::KeepGoing
+            | Part::TopFirst
+            | Part::BySharper
+            | Part::CantusAlone => Kind::Flag,
         }
     }
 }

@@ -9,7 +9,7 @@
 //! err ".."
 //! ```
 //!
-//! with a line for each file. A case of `compose` with status 0 or 1 is one of `best` too, by which the same is to come of it. Texts have the escapes of byte strings: `\n`, `\t`, `\r`, `\\`, `\"` and `\xNN`.
+//! with a line for each file. A case of `compose` with status 0 or 1, and without `--nth`, is one of `best` too, by which the same is to come of it. Texts have the escapes of byte strings: `\n`, `\t`, `\r`, `\\`, `\"` and `\xNN`.
 
 ghost use Rattle.std.specs.Prelude.{◌<◌};
 
@@ -154,14 +154,24 @@ impl Case {
         Ok(())
     }
 
-    /// Makes a case of `best` of one of `compose` with status 0 or 1, with the usual budget, and
-    /// tells whether it is one.
+    /// Whether it asks for the one of a number.
+    fn asks_nth(&self) -> bool {
+        for word in &self.words {
+            if word.as_str() == "--nth" {
+                return true;
+            }
+        }
+        false
+    }
+
+    /// Makes a case of `best` of one of `compose` with status 0 or 1 and without a number, with the
+    /// usual budget, and tells whether it is one.
     pub fn begin_best(&mut self, alloc: Global) -> Result<bool, Memory> {
         let is_composed = match self.words.first() {
             Some(word) => word.as_str() == "compose",
             None => false,
         };
-        if is_composed && self.status < 2 {
+        if is_composed && self.status < 2 && !self.asks_nth() {
             self.words = words_of_best(alloc, &self.words)?;
             return Ok(true);
         }

@@ -1,35 +1,37 @@
 -- What `newcantus` makes of the file of a sheet (`of_cantus`), where that can't be read
--- (`sheet_alone_unread`), and what it tells of the best cantus (`tells_best`).
-use Rattle.std.proofs.Common.{◌≡◌, ◌⊎◌, ℕ, List, [], ◌∷◌, Option, Some, None, Result, Ok, Err, inl, inr, refl, sym, subst, ◌++◌, arith}
+-- (`sheet_alone_unread`), and what is told of the cantus of a space (`tells_cantus`).
+use Rattle.std.proofs.Common.{◌≡◌, ◌⊎◌, ℕ, List, [], ◌∷◌, Option, Some, None, Result, Ok, Err, inl, inr, refl, sym, subst, arith}
 use Rattle.fux_port.specs.Files.{IsMissing}
 use Rattle.cantus_space.specs.declared.plan.CantusPlan.{CantusPlan}
-use Rattle.cantus_space.specs.Answers.{IsBestWithin, LeadsToBest}
+use Rattle.cantus_space.specs.Lawful.{quest_of}
 use Rattle.cantus_space.specs.Paths.{pitches_at}
 use Rattle.class_marker.specs.declared.one.Text.{Text as Content}
-use Rattle.fux_pitch.specs.declared.pitch.Pitch.{Pitch}
+use Rattle.command_words.specs.declared.command.Search.{Search}
 use Rattle.command_words.specs.declared.command.Wanted.{Wanted}
 use Rattle.works.specs.declared.complaint.Complaint.{Complaint}
 use Rattle.works.specs.declared.complaint.Complaint.TheVariants.{Usage, Refused, Unreadable, Unwritable, OutOfMemory}
 use Rattle.works.specs.declared.work.Output.{Output}
 use Rattle.works.specs.declared.work.Stop.{Stop}
 use Rattle.works.specs.declared.work.Stop.TheVariants as stop
+use Rattle.works.specs.declared.work.Verdict.{Verdict}
 use Rattle.command_words.specs.Commands.{Task, find_cantus}
 use Rattle.works.specs.TaskFiles.{as_list, names_in}
 use Rattle.works.specs.Complaints.{name_text}
-use Rattle.works.specs.Composed.{TellsFound, penalty_line}
-use Rattle.works.specs.Invented.{MakesCantus, cantus_answer, cantus_line}
+use Rattle.works.specs.Invented.{MakesCantus, TellsCantus, cantus_answer}
 use Rattle.works.specs.Endings.{Ended, IsMade, IsUnread}
+use Rattle.works.specs.Told.{TellsPath, TellsSought}
 use Rattle.works.specs.Works.{Answers, AreContents, Files, Makes, ReadsSheetFile}
+use Rattle.works.proofs.ToldLemmas.{of_found, told_as}
 
-pub of_cantus : (files : Files) (wanted : Wanted) (sheet : Option (List ℕ)) (budget : ℕ) (weights : Option Content)
+pub of_cantus : (files : Files) (wanted : Wanted) (sheet : Option (List ℕ)) (search : Search) (weights : Option Content)
     (answer : Result Output Stop)
     → ((sheets : List (List ℕ)) → AreContents 65536 (as_list weights) sheets
-    → Answers (MakesCantus wanted budget sheets) answer)
+    → Answers (MakesCantus wanted search sheets) answer)
     → (all : List (List ℕ)) → AreContents 65536 (as_list weights) all
-    → Answers (Makes (find_cantus wanted sheet budget) files all) answer
-of_cantus files wanted sheet budget weights (Ok output) made all content = made all content
-of_cantus files wanted sheet budget weights (Err (stop.Refused refusal)) made all content = made all content
-of_cantus files wanted sheet budget weights (Err stop.Memory) made all content = tt
+    → Answers (Makes (find_cantus wanted sheet search) files all) answer
+of_cantus files wanted sheet search weights (Ok output) made all content = made all content
+of_cantus files wanted sheet search weights (Err (stop.Refused refusal)) made all content = made all content
+of_cantus files wanted sheet search weights (Err stop.Memory) made all content = tt
 
 alone_unread : (files : Files) (name file : List ℕ) (rose : Type 0) → file ≡ name → rose ⊎ IsMissing files name
     → IsUnread files rose (name ∷ []) file
@@ -50,11 +52,11 @@ alone_unread_of task (Some name) files rose Usage only read = absurd read
 alone_unread_of task (Some name) files rose (Refused said) only read = absurd read
 alone_unread_of task (Some name) files rose Unwritable only read = absurd read
 
-pub sheet_alone_unread : (wanted : Wanted) (sheet : Option (List ℕ)) (budget : ℕ) (files : Files) (rose : Type 0)
+pub sheet_alone_unread : (wanted : Wanted) (sheet : Option (List ℕ)) (search : Search) (files : Files) (rose : Type 0)
     (complaint : Complaint)
-    → ReadsSheetFile files rose sheet (Err complaint) → IsMade (find_cantus wanted sheet budget) files rose (Err complaint)
-sheet_alone_unread wanted sheet budget files rose complaint =
-    alone_unread_of (find_cantus wanted sheet budget) sheet files rose complaint refl
+    → ReadsSheetFile files rose sheet (Err complaint) → IsMade (find_cantus wanted sheet search) files rose (Err complaint)
+sheet_alone_unread wanted sheet search files rose complaint =
+    alone_unread_of (find_cantus wanted sheet search) sheet files rose complaint refl
 
 -- a run whose sheet can't be read ends so
 pub alone_ended : (task : Task) (sheet : Option (List ℕ)) (files : Files) (rose : Type 0) (cut : ℕ → Type 0) (old : Option (List ℕ))
@@ -68,13 +70,12 @@ alone_ended task (Some name) files rose cut old Usage only read = absurd read
 alone_ended task (Some name) files rose cut old (Refused said) only read = absurd read
 alone_ended task (Some name) files rose cut old Unwritable only read = absurd read
 
--- the bytes tell the cantus that a path leads to
-pub tells_best : (plan : CantusPlan) (budget : ℕ) (path : List ℕ) (penalty : ℕ) (cantus : List Pitch) (bytes : List ℕ)
-    → LeadsToBest plan budget path penalty → cantus ≡ pitches_at plan path
-    → bytes ≡ cantus_line cantus ++ penalty_line penalty → TellsFound (IsBestWithin plan budget) cantus_answer bytes
-tells_best plan budget path penalty cantus bytes leads is spelled = record {
-  found = cantus;
-  penalty = penalty;
-  best = subst (λ ps. IsBestWithin plan budget ps penalty) (sym is) leads.best;
-  spelled = spelled;
-}
+-- what is told of the cantus of a space is told of those that are asked for
+pub tells_cantus : (space plan : CantusPlan) (search : Search) (verdict : Verdict) (bytes : List ℕ) → space ≡ plan
+    → TellsSought (quest_of space) search.before search.budget
+    (TellsPath (pitches_at space) (λ path penalty written. written ≡ cantus_answer (pitches_at space path) penalty)) verdict
+    bytes
+    → TellsCantus plan search verdict bytes
+tells_cantus space plan search verdict bytes is told =
+    subst (λ (p : CantusPlan). TellsCantus p search verdict bytes) is
+    (told_as (quest_of space) search.before search.budget _ _ (of_found (pitches_at space) cantus_answer) verdict bytes told)

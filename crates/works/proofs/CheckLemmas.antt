@@ -140,8 +140,8 @@ output_is_there (fromsmf file head) files name bytes output made one missing = o
 output_is_there (drill number by_sharper) files name bytes output made one missing = omega (arith, one.1)
 output_is_there (mark_answer file lesson) files name bytes output made one missing = omega (arith, one.1)
 output_is_there (whole_class list lesson) files name bytes output made one missing = omega (arith, one.1)
-output_is_there (find_canon file sheet budget) files name bytes output made one missing = omega (arith, one.1)
-output_is_there (find_cantus wanted sheet budget) files name bytes output made one missing = omega (arith, one.1)
+output_is_there (find_canon file sheet search) files name bytes output made one missing = omega (arith, one.1)
+output_is_there (find_cantus wanted sheet search) files name bytes output made one missing = omega (arith, one.1)
 output_is_there (certify_cantus wanted sheet budget) files name bytes output made one missing = omega (arith, one.1)
 output_is_there (check_cantus wanted certificate sheet) files name sheets output made one missing =
     cantus_is_there wanted files certificate sheets output made (rw (the_one certificate name one.0 one.1 one.2) missing)
@@ -255,8 +255,8 @@ not_refused (fromsmf file head) files bytes refusal made ready = ready
 not_refused (drill number by_sharper) files bytes refusal made ready = ready
 not_refused (mark_answer file lesson) files bytes refusal made ready = ready
 not_refused (whole_class list lesson) files bytes refusal made ready = ready
-not_refused (find_canon file sheet budget) files bytes refusal made ready = ready
-not_refused (find_cantus wanted sheet budget) files bytes refusal made ready = ready
+not_refused (find_canon file sheet search) files bytes refusal made ready = ready
+not_refused (find_cantus wanted sheet search) files bytes refusal made ready = ready
 not_refused (certify_cantus wanted sheet budget) files bytes refusal made ready = ready
 not_refused (check_cantus wanted certificate sheet) files sheets refusal made ready =
     elim made [

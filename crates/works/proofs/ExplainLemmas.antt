@@ -2,6 +2,7 @@
 -- named (`explains_named`, `refuses_names`), and of a text at fault (`faults_told`,
 -- `explains_faults`).
 use Rattle.std.proofs.Common.{◌≡◌, ℕ, Bool, true, false, List, [], ◌∷◌, Option, Result, Ok, Err, length, inl, inr, refl, subst}
+use Rattle.std.specs.Str.{is_utf8}
 use Rattle.std.specs.Prelude.{nat_lt, if◌then◌else◌}
 use Rattle.class_marker.specs.Markings.{IsTheText}
 use Rattle.command_words.specs.declared.command.Subject.{Subject}
@@ -47,13 +48,22 @@ refuses_names ex named stop.Memory answer cause e = rw e tt
 
 -- ---- the faults of a text
 
+-- a text without bytes has no line
+no_lines : lines_judged [] ≡ []
+unfolding lines_judged text_in lines_from
+no_lines = by (is_utf8 []) refl
+  where
+    by : (b : Bool) → is_utf8 [] ≡ b → lines_judged [] ≡ []
+    by true e = rw e refl
+    by false e = rw e refl
+
 -- the lines of what is shown of a text are those of the text
 shown_lines : (text : List ℕ) → lines_judged (shown_of text) ≡ lines_judged text
 unfolding lines_judged text_in lines_from
 shown_lines text = by (nat_lt 65536 (length text)) refl
   where
     by : (b : Bool) → nat_lt 65536 (length text) ≡ b → lines_judged (if b then [] else text) ≡ lines_judged text
-    by true e = rw e refl
+    by true e = rw e no_lines
     by false e = refl
 
 from_shown : (first : FoundFault) (text : List ℕ) (faults : List FoundFault) → AreFrom first (shown_of text) faults

@@ -20,5 +20,6 @@ pub mod MixedLemmas
 pub mod NewCantusLemmas
 pub mod ReadBackLemmas
 pub mod WholeLemmas
+pub mod ToldLemmas
 pub mod WithinLemmas
 pub mod WorkLemmas

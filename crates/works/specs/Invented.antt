@@ -1,16 +1,18 @@
 -- What `newcantus` makes of a mode, a number of bars and a range, over a sheet of weights.
 use Rattle.std.specs.Prelude.{ℕ, List, [], ◌∷◌, ◌++◌, Ok, Err, codes, map}
 use Rattle.cantus_space.specs.declared.plan.CantusPlan.{CantusPlan}
-use Rattle.cantus_space.specs.Answers.{IsBestWithin, IsLeastOver, IsNothingWithin}
+use Rattle.cantus_space.specs.Lawful.{quest_of}
 use Rattle.fux_pitch.specs.declared.pitch.Pitch.{Pitch}
 use Rattle.fux_pitch.specs.Names.{name_of}
 use Rattle.fux_text.specs.Words.{spaced}
 use Rattle.penalty_sheet.specs.declared.sheet.Sheet.{Sheet}
+use Rattle.command_words.specs.declared.command.Search.{Search}
 use Rattle.command_words.specs.declared.command.Wanted.{Wanted}
 use Rattle.works.specs.declared.work.Verdict.{Verdict}
-use Rattle.works.specs.Composed.{TellsAs, TellsFound, TellsNone, penalty_line}
+use Rattle.works.specs.Composed.{TellsFound, penalty_line}
 use Rattle.works.specs.Sheets.{OnSheet}
 use Rattle.works.specs.Texts.{Work}
+use Rattle.works.specs.Told.{TellsSought}
 
 -- what is asked, by the weights of a sheet
 abbrev pub plan_of : Wanted → Sheet → CantusPlan
@@ -25,19 +27,17 @@ cantus_line cantus = codes "cantus" ++ spaced (map name_of cantus) ++ 10 ∷ []
 abbrev pub cantus_answer : List Pitch → ℕ → List ℕ
 cantus_answer cantus penalty = cantus_line cantus ++ penalty_line penalty
 
--- what bytes tell of the cantus that are asked for, by their verdict: the best cantus and its
--- penalty, whose load is within the budget; that no cantus is lawful, and all pitches that begin
--- one are within the budget; or the least number whose load is above the budget
-abbrev pub TellsCantus : CantusPlan → ℕ → Verdict → List ℕ → Type 0
-TellsCantus plan budget =
-    TellsAs (TellsFound (IsBestWithin plan budget) cantus_answer) (TellsNone (IsNothingWithin plan budget))
-    (IsLeastOver plan budget)
+-- what bytes tell of the cantus that are asked for, by their verdict: the cantus that is asked for
+-- and its penalty, or what is told where there is none or the budget is spent
+abbrev pub TellsCantus : CantusPlan → Search → Verdict → List ℕ → Type 0
+TellsCantus plan search =
+    TellsSought (quest_of plan) search.before search.budget (λ AreIt. TellsFound AreIt cantus_answer)
 
--- `newcantus` with this budget makes this of what is asked, over the sheet in use
-abbrev pub Invents : Wanted → ℕ → Sheet → Work → Type 0
-Invents wanted budget sheet (Ok output) = TellsCantus (plan_of wanted sheet) budget output.verdict output.bytes
-Invents wanted budget sheet (Err refusal) = ⊥
+-- `newcantus` makes this of what is asked, over the sheet in use
+abbrev pub Invents : Wanted → Search → Sheet → Work → Type 0
+Invents wanted search sheet (Ok output) = TellsCantus (plan_of wanted sheet) search output.verdict output.bytes
+Invents wanted search sheet (Err refusal) = ⊥
 
 -- `newcantus` makes this of what is asked, and of the file of a sheet where one is given
-abbrev pub MakesCantus : Wanted → ℕ → List (List ℕ) → Work → Type 0
-MakesCantus wanted budget sheets work = OnSheet (λ sheet. Invents wanted budget sheet) sheets work
+abbrev pub MakesCantus : Wanted → Search → List (List ℕ) → Work → Type 0
+MakesCantus wanted search sheets work = OnSheet (λ sheet. Invents wanted search sheet) sheets work

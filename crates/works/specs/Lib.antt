@@ -25,4 +25,5 @@ pub mod Sheets
 pub mod TaskFiles
 pub mod Texts
 pub mod WholeClasses
+pub mod Told
 pub mod Works

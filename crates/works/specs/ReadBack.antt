@@ -6,6 +6,7 @@ use Rattle.std.specs.Fmt.{decimal}
 use Rattle.class_marker.specs.Markings.{IsTheText}
 use Rattle.command_words.specs.declared.command.Job.TheVariants.{Best, Compose}
 use Rattle.command_words.specs.declared.command.MixedJob.TheVariants as mixed
+use Rattle.command_words.specs.declared.command.Search.{Search}
 use Rattle.command_words.specs.declared.command.Wanted.{Wanted}
 use Rattle.fux_grid.specs.declared.exercise.Exercise.{Exercise}
 use Rattle.fux_grid.specs.Grid.{Grid}
@@ -64,5 +65,5 @@ pub record IsCantusRead (bytes : List ℕ) : Type 0 where
 -- so it is with what `newcantus` writes of a best cantus
 abbrev pub NewCantusIsRead : Type 0
 NewCantusIsRead =
-    (wanted : Wanted) (budget : ℕ) (sheets : List (List ℕ)) (written : Output)
-    → MakesCantus wanted budget sheets (Ok written) → written.verdict ≡ Favorable → IsCantusRead written.bytes
+    (wanted : Wanted) (search : Search) (sheets : List (List ℕ)) (written : Output)
+    → MakesCantus wanted search sheets (Ok written) → written.verdict ≡ Favorable → IsCantusRead written.bytes

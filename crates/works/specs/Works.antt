@@ -15,7 +15,7 @@ use Rattle.works.specs.declared.work.Verdict.TheVariants.{Spent}
 use Rattle.works.specs.declared.work.Stop.{Stop}
 use Rattle.works.specs.declared.work.Stop.TheVariants.{Refused, Memory}
 use Rattle.command_words.specs.declared.command.Job.{Job}
-use Rattle.command_words.specs.declared.command.Job.TheVariants.{Compose, Best, Mark, Weigh, Cantus, Print, ToSmf, ToXml, MarkXml, Picture, MarkPicture}
+use Rattle.command_words.specs.declared.command.Job.TheVariants.{Compose, Best, Mark, Weigh, Cantus, Print, ToSmf, ToXml, MarkXml, Picture, MarkPicture, ComposeNth}
 use Rattle.penalty_sheet.specs.declared.sheet.Sheet.{Sheet}
 use Rattle.works.specs.Answered.{MarksAnswer}
 use Rattle.works.specs.CantusCertified.{MakesCantusCertificate}
@@ -40,11 +40,13 @@ use Rattle.works.specs.Searched.{IsNarrow}
 use Rattle.works.specs.Sheets.{OnSheet, sheet_said}
 use Rattle.works.specs.Texts.{Work, OnText}
 use Rattle.works.specs.WholeClasses.{ReportsWhole}
+use Rattle.works.specs.Told.{ComposesNth}
 
 -- a job makes this of an exercise, over the sheet in use
 abbrev pub MakesOf : Job → Sheet → Exercise → Work → Type 0
 MakesOf (Compose budget) sheet ex = Composes budget sheet ex
 MakesOf (Best budget) sheet ex = ComposesSharply budget sheet ex
+MakesOf (ComposeNth before budget) sheet ex = ComposesNth before budget sheet ex
 MakesOf Mark sheet ex = Marks ex
 MakesOf (Weigh against) sheet ex = Weighs against sheet ex
 MakesOf Cantus sheet ex = CantusMarks ex
@@ -135,8 +137,8 @@ Makes (drill number by_sharper) files [] work = Drills number by_sharper work
 Makes (mark_answer name lesson) files (text ∷ given ∷ []) work = MarksAnswer given text work
 Makes (class_report list) files (text ∷ []) work = ReportsClass files text work
 Makes (whole_class list lesson) files (text ∷ lessons) work = ReportsWhole files (Unit {0}) text lessons work
-Makes (find_canon name sheet budget) files (text ∷ sheets) work = MakesCanon budget sheets text work
-Makes (find_cantus wanted sheet budget) files sheets work = MakesCantus wanted budget sheets work
+Makes (find_canon name sheet search) files (text ∷ sheets) work = MakesCanon search sheets text work
+Makes (find_cantus wanted sheet search) files sheets work = MakesCantus wanted search sheets work
 Makes (certify_cantus wanted sheet budget) files sheets work = MakesCantusCertificate wanted budget sheets work
 Makes (check_cantus wanted certificate sheet) files sheets work = ChecksCantusBy wanted files certificate sheets work
 Makes _ _ _ work = ⊥

@@ -12,15 +12,16 @@ ghost use Rattle.works.specs.Endings.{IsMade};
 ghost use Rattle.works.specs.Works.{Answers, OnTexts};
 
 use crate::complaint::Complaint;
-use crate::composing::{bound_text, none_text};
 use crate::content::read_content;
 use crate::exercise::LONGEST_TEXT;
 use crate::making::{read_weights, said};
 use crate::refusal::Refusal;
+use crate::telling::{Telling, told};
 use crate::weighing::sheet_of;
-use crate::work::{Output, Stop, Verdict};
+use crate::work::{Output, Stop};
 use canon_space::{Canon, CanonSpace, canon_score, read_canon};
 use class_marker::Text;
+use command_words::Search;
 use fux_grid::Score;
 use fux_pitch::Memory;
 use fux_port::Shelf;
@@ -28,31 +29,36 @@ use fux_text::sing_line;
 use penalty_sheet::Sheet;
 use std::alloc::Global;
 use std::fmt::Write;
-use tree_search::{Outcome, search_quest};
 
-/// The best of the canons that the text in a file asks for, over the sheet of weights in another
-/// where one is named.
+/// The best of the canons that the text in a file asks for, or the one of a number, over the sheet
+/// of weights in another where one is named.
 pub fn canon<'a, F: Shelf>(
     alloc: Global,
     name: &'a str,
     sheet: Option<&'a str>,
-    budget: u32,
+    search: Search,
     shelf: &mut F,
 ) -> Result<Output, Complaint<'a>>
-    ensures made { IsMade (find_canon name.entry.now (sheet_named sheet.entry) budget)
+    ensures made { IsMade (find_canon name.entry.now (sheet_named sheet.entry) search)
         (F.files shelf.old) (Rose (F.faults shelf.old) (F.faults shelf.new)) result }
     ensures served { ServesTask (F.serves shelf.old) (F.files shelf.old)
-        (find_canon name.entry.now (sheet_named sheet.entry) budget) → IfErr result BlamesNoFile }
+        (find_canon name.entry.now (sheet_named sheet.entry) search) → IfErr result BlamesNoFile }
     ensures files { F.files shelf.new ≡ F.files shelf.old }
 {
     let text = read_content(alloc, shelf, name, LONGEST_TEXT)?;
     let weights = read_weights(alloc, shelf, sheet)?;
-    said(alloc, name, of_text(alloc, &text, &weights, budget))
+    said(alloc, name, of_text(alloc, &text, &weights, search))
 }
 
-/// The best of the canons that a text asks for, over the file of a sheet where one is given.
-fn of_text(alloc: Global, text: &Text, weights: &Option<Text>, budget: u32) -> Result<Output, Stop>
-    ensures { OnTexts text.now weights.now (λ bytes sheets. Answers (MakesCanon budget sheets bytes)
+/// The best of the canons that a text asks for, or the one of a number, over the file of a sheet
+/// where one is given.
+fn of_text(
+    alloc: Global,
+    text: &Text,
+    weights: &Option<Text>,
+    search: Search,
+) -> Result<Output, Stop>
+    ensures { OnTexts text.now weights.now (λ bytes sheets. Answers (MakesCanon search sheets bytes)
         result) }
 {
     let Text::Bytes(bytes) = text else {
@@ -60,7 +66,7 @@ fn of_text(alloc: Global, text: &Text, weights: &Option<Text>, budget: u32) -> R
     };
     let canon = canon_in(bytes)?;
     let sheet = sheet_of(alloc, weights)?;
-    Ok(imitate(alloc, bytes, &canon, &sheet, budget)?)
+    Ok(imitate(alloc, bytes, &canon, &sheet, search)?)
 }
 
 /// The canon that a text is of.
@@ -74,26 +80,54 @@ fn canon_in(bytes: &[u8]) -> Result<Canon, Stop>
     }
 }
 
-/// What is written of the best canon, behind its text, or that there is none, or a bound.
+/// What is written of the best canon, or of the one of a number, how many there are, or a bound.
 fn imitate(
     alloc: Global,
     text: &[u8],
     canon: &Canon,
     sheet: &Sheet,
-    budget: u32,
+    search: Search,
 ) -> Result<Output, Memory>
     requires { IsCanon canon.now }
-    ensures { IfOk result (λ output. TellsCanon text.now canon.now sheet.now budget output.verdict
+    ensures { IfOk result (λ output. TellsCanon text.now canon.now sheet.now search output.verdict
         output.bytes) }
 {
     let space = CanonSpace::new(canon, sheet);
-    match search_quest(alloc, &space, budget)? {
-        Outcome::Found { path, value } => Ok(Output::of_bytes(
-            Verdict::Favorable,
-            best_bytes(alloc, text, &space, path.as_slice(), value)?,
-        )),
-        Outcome::Nothing => Ok(Output::of_text(Verdict::Unfavorable, none_text(alloc)?)),
-        Outcome::Spent { bound } => Ok(Output::of_text(Verdict::Spent, bound_text(alloc, bound)?)),
+    let sought = Canons {
+        text,
+        space: &space,
+    };
+    Ok(told(alloc, &sought, search)?)
+}
+
+/// The canons that a text asks for.
+#[derive(Drop)]
+struct Canons<'a> {
+    text: &'a [u8],
+    space: &'a CanonSpace,
+}
+
+impl<'a> Telling for Canons<'a> {
+    ghost use Rattle.std.specs.Prelude.{◌≡◌};
+    ghost use Rattle.canon_space.specs.Canons.{IsCanon};
+    ghost use Rattle.canon_space.specs.Paths.{bars_at};
+    ghost use Rattle.works.specs.Imitated.{canon_answer};
+
+    type Tree = CanonSpace;
+
+    ghost tree = { λ sought. sought.space.now };
+
+    ghost IsReady = { λ sought. IsCanon sought.space.now.canon };
+
+    ghost IsWritten = { λ sought path penalty bytes. bytes
+        ≡ canon_answer sought.text.now (bars_at path) penalty };
+
+    fn space(&self) -> &CanonSpace {
+        self.space
+    }
+
+    fn tell(&self, alloc: Global, path: &[u16], penalty: u64) -> Result<Vec<u8>, Memory> {
+        best_bytes(alloc, self.text, self.space, path, penalty)
     }
 }
 

@@ -11,72 +11,86 @@ ghost use Rattle.works.specs.Endings.{IsMade};
 ghost use Rattle.works.specs.Works.{Answers, AreContents};
 
 use crate::complaint::Complaint;
-use crate::composing::{bound_text, none_text};
 use crate::drilling::put_pitches;
 use crate::making::{read_weights, said};
+use crate::telling::{Telling, told};
 use crate::weighing::sheet_of;
-use crate::work::{Output, Stop, Verdict};
+use crate::work::{Output, Stop};
 use cantus_space::{CantusSpace, cantus_of};
 use class_marker::Text;
-use command_words::Wanted;
+use command_words::{Search, Wanted};
 use fux_pitch::{Memory, Pitch};
 use fux_port::Shelf;
 use penalty_sheet::Sheet;
 use std::alloc::Global;
 use std::fmt::Write;
-use tree_search::{Outcome, search_quest};
 
-/// The best new cantus that is as is asked, over the sheet of weights in a file where one is named.
+/// The best new cantus that is as is asked, or the one of a number, over the sheet of weights in a
+/// file where one is named.
 pub fn new_cantus<'a, F: Shelf>(
     alloc: Global,
     wanted: Wanted,
     sheet: Option<&'a str>,
-    budget: u32,
+    search: Search,
     shelf: &mut F,
 ) -> Result<Output, Complaint<'a>>
     requires { IsWanted wanted }
-    ensures made { IsMade (find_cantus wanted (sheet_named sheet.entry) budget) (F.files shelf.old)
+    ensures made { IsMade (find_cantus wanted (sheet_named sheet.entry) search) (F.files shelf.old)
         (Rose (F.faults shelf.old) (F.faults shelf.new)) result }
     ensures served { ServesTask (F.serves shelf.old) (F.files shelf.old)
-        (find_cantus wanted (sheet_named sheet.entry) budget) → IfErr result BlamesNoFile }
+        (find_cantus wanted (sheet_named sheet.entry) search) → IfErr result BlamesNoFile }
     ensures files { F.files shelf.new ≡ F.files shelf.old }
 {
     let weights = read_weights(alloc, shelf, sheet)?;
-    said(alloc, "", of_weights(alloc, &wanted, &weights, budget))
+    said(alloc, "", of_weights(alloc, &wanted, &weights, search))
 }
 
-/// The best new cantus, over the file of a sheet where one is given.
+/// The best new cantus, or the one of a number, over the file of a sheet where one is given.
 fn of_weights(
     alloc: Global,
     wanted: &Wanted,
     weights: &Option<Text>,
-    budget: u32,
+    search: Search,
 ) -> Result<Output, Stop>
     requires { IsWanted wanted.now }
     ensures { (sheets : List (List ℕ)) → AreContents 65536 (as_list weights.now) sheets →
-        Answers (MakesCantus wanted.now budget sheets) result }
+        Answers (MakesCantus wanted.now search sheets) result }
 {
     let sheet = sheet_of(alloc, weights)?;
-    Ok(invent(alloc, wanted, &sheet, budget)?)
+    Ok(invent(alloc, wanted, &sheet, search)?)
 }
 
-/// What is written of the best cantus, or that there is none, or a bound.
-fn invent(alloc: Global, wanted: &Wanted, sheet: &Sheet, budget: u32) -> Result<Output, Memory>
+/// What is written of the best cantus, or of the one of a number, how many there are, or a bound.
+fn invent(alloc: Global, wanted: &Wanted, sheet: &Sheet, search: Search) -> Result<Output, Memory>
     requires { IsWanted wanted.now }
-    ensures { IfOk result (λ output. TellsCantus (plan_of wanted.now sheet.now) budget
+    ensures { IfOk result (λ output. TellsCantus (plan_of wanted.now sheet.now) search
         output.verdict output.bytes) }
 {
     let space = CantusSpace::new(wanted.mode, wanted.bars, wanted.low, wanted.high, sheet);
-    match search_quest(alloc, &space, budget)? {
-        Outcome::Found { path, value } => {
-            let cantus = cantus_of(alloc, &space, path.as_slice())?;
-            Ok(Output::of_text(
-                Verdict::Favorable,
-                best_text(alloc, cantus.as_slice(), value)?,
-            ))
-        }
-        Outcome::Nothing => Ok(Output::of_text(Verdict::Unfavorable, none_text(alloc)?)),
-        Outcome::Spent { bound } => Ok(Output::of_text(Verdict::Spent, bound_text(alloc, bound)?)),
+    Ok(told(alloc, &space, search)?)
+}
+
+impl Telling for CantusSpace {
+    ghost use Rattle.std.specs.Prelude.{◌≡◌};
+    ghost use Rattle.cantus_space.specs.Paths.{pitches_at};
+    ghost use Rattle.works.specs.Invented.{cantus_answer};
+
+    type Tree = CantusSpace;
+
+    ghost tree = { λ space. space };
+
+    ghost IsReady = { λ _. Unit {0} };
+
+    ghost IsWritten = { λ space path penalty bytes. bytes
+        ≡ cantus_answer (pitches_at space path) penalty };
+
+    fn space(&self) -> &CantusSpace {
+        self
+    }
+
+    fn tell(&self, alloc: Global, path: &[u16], penalty: u64) -> Result<Vec<u8>, Memory> {
+        let cantus = cantus_of(alloc, self, path)?;
+        Ok(best_text(alloc, cantus.as_slice(), penalty)?.into_bytes())
     }
 }
 

@@ -21,10 +21,12 @@ mod law;
 mod making;
 mod marking;
 mod mixing;
+mod numbering;
 mod playing;
 mod refusal;
 mod rendering;
 mod searching;
+mod telling;
 mod weighing;
 mod work;
 

@@ -26,6 +26,7 @@ use crate::imitating::canon;
 use crate::inventing::new_cantus;
 use crate::marking::{cantus, mark};
 use crate::mixing::on_mixed;
+use crate::numbering::compose_nth;
 use crate::playing::{LONGEST_MIDI, from_smf};
 use crate::refusal::{Refusal, refusal_text};
 use crate::rendering::{mark_picture, mark_xml, print, to_picture, to_smf, to_xml};
@@ -96,13 +97,13 @@ pub fn make<'a, F: Shelf, R: Threads + Sync>(
         Making::Canon {
             name,
             sheet,
-            budget,
-        } => canon(alloc, name, sheet, budget, shelf),
+            search,
+        } => canon(alloc, name, sheet, search, shelf),
         Making::NewCantus {
             wanted,
             sheet,
-            budget,
-        } => new_cantus(alloc, wanted, sheet, budget, shelf),
+            search,
+        } => new_cantus(alloc, wanted, sheet, search, shelf),
         Making::CheckCantus {
             wanted,
             certificate,
@@ -183,6 +184,9 @@ fn of_exercise<R: Threads + Sync>(
     match job {
         Job::Compose { budget } => compose(rt, alloc, exercise, sheet, budget),
         Job::Best { budget } => best(rt, alloc, exercise, sheet, budget),
+        Job::ComposeNth { before, budget } => {
+            compose_nth(rt, alloc, exercise, sheet, before, budget)
+        }
         Job::Mark => mark(alloc, exercise),
         Job::Weigh { against } => weigh(rt, alloc, exercise, sheet, against),
         Job::Cantus => cantus(alloc, exercise),

@@ -12,7 +12,7 @@ ghost use Rattle.species_space.specs.Paths.{is_alive_path, prefix_at};
 ghost use Rattle.works.specs.Blame.{BlamesNoFile, ServesTask};
 ghost use Rattle.command_words.specs.Commands.{AreNamed, on_mixed, sheet_named};
 ghost use Rattle.works.specs.Composed.{penalty_line};
-ghost use Rattle.works.specs.Mixed.{ComposesMixed, MakesMixed, MakesOfMixed, MarksMixed, NamesSpecies, TellsMixed};
+ghost use Rattle.works.specs.Mixed.{ComposesMixed, MakesMixed, MakesOfMixed, MarksMixed, NamesSpecies};
 ghost use Rattle.works.specs.Endings.{IsMade};
 ghost use Rattle.works.specs.Rendered.{MarksPicture, MarksXml};
 ghost use Rattle.works.specs.Searched.{IsSpaceOf, StopsAtWidth};
@@ -20,17 +20,18 @@ ghost use Rattle.works.specs.Works.{Answers, OnTexts};
 
 use crate::charging::weigh_mixed;
 use crate::complaint::Complaint;
-use crate::composing::{best_text, bound_text, none_text};
+use crate::composing::best_text;
 use crate::content::read_content;
 use crate::exercise::{LONGEST_TEXT, exercise_of};
 use crate::making::{read_weights, said};
 use crate::marking::output_of;
 use crate::refusal::Refusal;
 use crate::rendering::{marked_document, shown_marks, verdict_of};
+use crate::telling::{Telling, told};
 use crate::weighing::sheet_of;
-use crate::work::{Output, Stop, Verdict};
+use crate::work::{Output, Stop};
 use class_marker::{Text, lines_of};
-use command_words::{MixedJob, Named};
+use command_words::{MixedJob, Named, Search};
 use fux_grid::{Exercise, Score, mixed_as};
 use fux_pitch::Memory;
 use fux_port::Shelf;
@@ -39,7 +40,6 @@ use score_marker::{Mark, marks};
 use score_picture::picture;
 use species_space::{Mixed, MixedSpace, TableFault, named_species, score_of};
 use std::alloc::Global;
-use tree_search::{Outcome, search_quest};
 
 /// What a job makes of the exercise in a file with the species that are named for its voices, over
 /// the sheet of weights in another where one is named.
@@ -119,7 +119,12 @@ fn compose_mixed(alloc: Global, m: &Mixed<'_>, sheet: &Sheet, budget: u32) -> Re
     ensures { Answers (ComposesMixed budget sheet.now m.now.ex.now (exercise_of m.now)) result }
 {
     let space = space_of(alloc, m, sheet)?;
-    Ok(found_output(alloc, m, &space, budget)?)
+    let sought = MixedSettings { m, space: &space };
+    let search = Search {
+        budget,
+        before: None,
+    };
+    Ok(told(alloc, &sought, search)?)
 }
 
 /// The space of the settings of a mixed exercise, or a refusal of its first menu that is too wide.
@@ -137,25 +142,35 @@ fn space_of<'a>(alloc: Global, m: &'a Mixed<'a>, sheet: &'a Sheet) -> Result<Mix
     }
 }
 
-/// What is written of what a search finds.
-fn found_output(
-    alloc: Global,
-    m: &Mixed<'_>,
-    space: &MixedSpace<'_>,
-    budget: u32,
-) -> Result<Output, Memory>
-    requires mixed { IsMixed m.now }
-    requires space { space.now.exercise ≡ exercise_of m.now }
-    ensures { IfOk result (λ output. TellsMixed m.now.ex.now space.now.exercise space.now.sheet
-        budget output.verdict output.bytes) }
-{
-    match search_quest(alloc, space, budget)? {
-        Outcome::Found { path, value } => Ok(Output::of_text(
-            Verdict::Favorable,
-            best_at(alloc, m, space, path.as_slice(), value)?,
-        )),
-        Outcome::Nothing => Ok(Output::of_text(Verdict::Unfavorable, none_text(alloc)?)),
-        Outcome::Spent { bound } => Ok(Output::of_text(Verdict::Spent, bound_text(alloc, bound)?)),
+/// The settings of a mixed exercise.
+#[derive(Drop)]
+struct MixedSettings<'a> {
+    m: &'a Mixed<'a>,
+    space: &'a MixedSpace<'a>,
+}
+
+impl<'a> Telling for MixedSettings<'a> {
+    ghost use Rattle.std.specs.Prelude.{◌≡◌};
+    ghost use Rattle.species_space.specs.Mixed.{IsMixed, exercise_of};
+    ghost use Rattle.species_space.specs.Paths.{prefix_at};
+    ghost use Rattle.works.specs.Told.{IsSettingText};
+
+    type Tree = MixedSpace<'a>;
+
+    ghost tree = { λ sought. sought.space.now };
+
+    ghost IsReady = { λ sought. IsMixed sought.m.now
+        × (sought.space.now.exercise ≡ exercise_of sought.m.now) };
+
+    ghost IsWritten = { λ sought path. IsSettingText sought.m.now.ex.now
+        (prefix_at sought.space.now.exercise path) };
+
+    fn space(&self) -> &MixedSpace<'a> {
+        self.space
+    }
+
+    fn tell(&self, alloc: Global, path: &[u16], penalty: u64) -> Result<Vec<u8>, Memory> {
+        Ok(best_at(alloc, self.m, self.space, path, penalty)?.into_bytes())
     }
 }
 

@@ -10,14 +10,22 @@ use Rattle.mark_evidence.proofs.alone.lone_score.Goals as goal
 pub score_of-requires-clause-least : goal.score_of-requires-clause-least
 score_of-requires-clause-least c =
     let ex = c.args.ex.now in
-    omega (arith, ap length (c.deref.ensures.value ∙ c.in_ok-lines.ensures),
-    length-map-range_with_len (lone_line ex) 0 ex.voices, c.requires.fewest_voices)
+    omega (
+      arith,
+      ap length (c.deref.ensures.value ∙ c.in_ok-lines.ensures),
+      length-map-range_with_len (lone_line ex) 0 ex.voices,
+      c.requires.fewest_voices,
+    )
 
 pub score_of-requires-clause-most : goal.score_of-requires-clause-most
 score_of-requires-clause-most c =
     let ex = c.args.ex.now in
-    omega (arith, ap length (c.deref.ensures.value ∙ c.in_ok-lines.ensures),
-    length-map-range_with_len (lone_line ex) 0 ex.voices, c.requires.most_voices)
+    omega (
+      arith,
+      ap length (c.deref.ensures.value ∙ c.in_ok-lines.ensures),
+      length-map-range_with_len (lone_line ex) 0 ex.voices,
+      c.requires.most_voices,
+    )
 
 pub score_of-requires-clause-follow : goal.score_of-requires-clause-follow
 score_of-requires-clause-follow c =

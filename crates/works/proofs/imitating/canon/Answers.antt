@@ -14,7 +14,7 @@ pub returns-in_err-weights-clause-made : goal.returns-in_err-weights-clause-made
 returns-in_err-weights-clause-made g c =
     let files = g.F.Shelf.files in
     let faults = g.F.Shelf.faults in
-    let task = find_canon c.args.name.now (sheet_named c.args.sheet) c.args.budget in
+    let task = find_canon c.args.name.now (sheet_named c.args.sheet) c.args.search in
     let told = err_from_is_err_and c.from_residual-in_err-weights.result c.from_residual-in_err-weights.ensures.1 in
     rw (told.1, told.2) (sheet_unread c.args.name.now (sheet_named c.args.sheet)
     (files c.args.shelf.now) (files c.read_content.new.shelf)
@@ -32,13 +32,13 @@ returns-clause-made g c =
     let sheet = sheet_named c.args.sheet in
     let text = c.in_ok-text.text in
     let weights = c.in_ok-weights.weights in
-    made_said (find_canon name sheet c.args.budget) (g.F.Shelf.files c.args.shelf.now) _
+    made_said (find_canon name sheet c.args.search) (g.F.Shelf.files c.args.shelf.now) _
     (text ∷ as_list weights) c.of_text.result c.said.result (
       c.in_ok-text.ensures.reads,
       read_same 65536 (g.F.Shelf.files c.args.shelf.now) _ (as_list sheet) (as_list weights)
           c.in_ok-text.ensures.files c.in_ok-weights.ensures.reads,
     )
-    (of_canon (g.F.Shelf.files c.args.shelf.now) name sheet c.args.budget text weights c.of_text.result c.of_text.ensures)
+    (of_canon (g.F.Shelf.files c.args.shelf.now) name sheet c.args.search text weights c.of_text.result c.of_text.ensures)
     c.said.ensures.says
 
 pub returns-in_err-text-clause-served : goal.returns-in_err-text-clause-served

@@ -8,16 +8,16 @@ use Rattle.works.proofs.inventing.new_cantus.Goals as goal
 pub returns-in_err-weights-clause-made : goal.returns-in_err-weights-clause-made
 returns-in_err-weights-clause-made g c =
     let told = err_from_is_err_and c.from_residual.result c.from_residual.ensures.1 in
-    rw (told.1, told.2) (sheet_alone_unread c.args.wanted (sheet_named c.args.sheet) c.args.budget
+    rw (told.1, told.2) (sheet_alone_unread c.args.wanted (sheet_named c.args.sheet) c.args.search
     (g.F.Shelf.files c.args.shelf.now) _ _ c.in_err-weights.ensures.reads)
 
 pub returns-clause-made : goal.returns-clause-made
 returns-clause-made g c =
     let sheet = sheet_named c.args.sheet in
     let weights = c.in_ok-weights.weights in
-    made_said (find_cantus c.args.wanted sheet c.args.budget) (g.F.Shelf.files c.args.shelf.now) _
+    made_said (find_cantus c.args.wanted sheet c.args.search) (g.F.Shelf.files c.args.shelf.now) _
     (as_list weights) c.of_weights.result c.said.result c.in_ok-weights.ensures.reads
-    (of_cantus (g.F.Shelf.files c.args.shelf.now) c.args.wanted sheet c.args.budget weights c.of_weights.result
+    (of_cantus (g.F.Shelf.files c.args.shelf.now) c.args.wanted sheet c.args.search weights c.of_weights.result
     c.of_weights.ensures)
     c.said.ensures.says
 
