@@ -87,7 +87,7 @@ fn same_space(space: &CantusSpace) -> CantusSpace
     ensures { result ≡ space.now }
 {
     let plan = space.plan();
-    CantusSpace::new(plan.mode, plan.bars, plan.low, plan.high, &plan.sheet)
+    CantusSpace::new(plan.mode, plan.bars, plan.low, plan.high, &plan.sheet, &plan.prices)
 }
 
 impl CantusChecker {

@@ -10,7 +10,7 @@ use Rattle.cert_tree.specs.Trees.{IsBegunByOne}
 use Rattle.fux_pitch.specs.declared.pitch.Pitch.{Pitch}
 use Rattle.fux_pitch.specs.Modes.{is_in_gamut}
 use Rattle.cantus_space.specs.declared.plan.CantusPlan.{CantusPlan}
-use Rattle.cantus_space.specs.Ahead.{gauges_end}
+use Rattle.cantus_space.specs.Ahead.{floor_ends}
 use Rattle.cantus_space.specs.Broken.{breaks_rule, is_broken_by, is_broken_in, rules_claimed}
 use Rattle.cantus_space.specs.Cantus.{is_in_pool, is_in_range}
 use Rattle.cantus_space.specs.Grows.{Comes, comes, floor_grows}
@@ -18,7 +18,7 @@ use Rattle.cantus_space.specs.Known.{pool_from}
 use Rattle.cantus_space.specs.Lawful.{IsLawful, penalty_of}
 use Rattle.cantus_space.specs.Numbers.{WIDTH, numbered_pitch}
 use Rattle.cantus_space.specs.Order.{has_number, pool_sounds}
-use Rattle.cantus_space.specs.Rules.{breaks, breaks_some_rule, floor_of, is_live, may_come, paid, rules}
+use Rattle.cantus_space.specs.Rules.{breaks, breaks_some_rule, floor_of, is_live, may_come, rules}
 use Rattle.cantus_law.specs.Certificates.{Begins}
 use Rattle.cantus_law.specs.Claims.{has_break_of, longer_lists}
 
@@ -42,7 +42,7 @@ module _ (plan : CantusPlan) where
   pub floor_at_end : (t : List Pitch) → length t ≡ plan.bars → floor_of plan (reverse t) ≡ penalty_of plan t
   floor_at_end t whole =
       let long : plan.bars ≤ length (reverse t) = omega (arith, whole, length-reverse t) in
-      ap (λ n. paid plan.sheet (reverse t) + n) (gauges_end plan (reverse t) long)
+      floor_ends plan (reverse t) long
 
 -- ---- rules
 

@@ -1,5 +1,5 @@
 -- Nodes of longer paths.
-use Rattle.std.specs.Prelude.{◌≡◌, ℕ, ◌+◌, ◌<◌, ◌++◌, ◌==◌, Bool, true, false, ◌&&◌, nat_lt, [], ◌∷◌, List, Some, None, length, if◌then◌else◌, refl}
+use Rattle.std.specs.Prelude.{◌≡◌, ℕ, ◌+◌, ◌<◌, ◌≤◌, ◌++◌, ◌==◌, Bool, true, false, ◌&&◌, nat_lt, [], ◌∷◌, List, Some, None, length, if◌then◌else◌, refl}
 use Rattle.std.proofs.Common.{arith, sym, ap, ◌∙◌, subst}
 use Rattle.std.proofs.lemmas.Bool.{and_from}
 use Rattle.std.proofs.lemmas.List.Folds.{list_all-append}
@@ -7,6 +7,7 @@ use Rattle.fux_pitch.specs.declared.pitch.Pitch.{Pitch}
 use Rattle.rule_law.specs.Law.{test_from_below}
 use Rattle.cantus_space.specs.declared.node.CantusNode.{CantusNode}
 use Rattle.cantus_space.specs.declared.plan.CantusPlan.{CantusPlan}
+use Rattle.cantus_space.specs.Ahead.{no_ends}
 use Rattle.cantus_space.specs.Cantus.{is_in_pool}
 use Rattle.cantus_space.specs.Grows.{comes, goes_on, history-push, live_none, live_some, live_value}
 use Rattle.cantus_space.specs.Nodes.{IsNodeOf}
@@ -52,8 +53,8 @@ module _ (plan : CantusPlan) (path : List ℕ) (k : ℕ) where
       none false b h = refl
 
 -- pitches that aren't there cost nothing
-no_floor : (plan : CantusPlan) → floor_of plan [] ≡ 0
-no_floor plan =
+no_floor : (plan : CantusPlan) → 3 ≤ plan.bars → floor_of plan [] ≡ 0
+no_floor plan some =
     let climax : least_climax plan [] ≡ 0 = nothing (is_last_climax plan []) 0 in
     let compass : least_compass plan [] ≡ 0 = nothing (starts_ahead plan 0 == 0) 0 in
     let leaps : least_leaps plan [] ≡ 0 = omega arith in
@@ -62,15 +63,15 @@ no_floor plan =
     ∙ ap (λ n. gauge_cost plan.sheet 0 n (least_leaps plan []) 0) compass
     ∙ ap (λ n. gauge_cost plan.sheet 0 0 n 0) leaps ∙ omega arith
     in
-    omega (arith, none)
+    omega (arith, none, no_ends plan [] (omega (arith, some)))
   where
     nothing : (b : Bool) (n : ℕ) → (if b then n else n) ≡ n
     nothing true n = refl
     nothing false n = refl
 
 -- the node of no pitches
-pub root_lives : (plan : CantusPlan) → live_at plan [] ≡ Some 0
-root_lives plan = live_some plan [] refl ∙ ap Some (no_floor plan)
+pub root_lives : (plan : CantusPlan) → 3 ≤ plan.bars → live_at plan [] ≡ Some 0
+root_lives plan some = live_some plan [] refl ∙ ap Some (no_floor plan some)
 
 -- a child of a live path is of its bar's pool
 pub live_child_in_pool : (plan : CantusPlan) (path : List ℕ) (k floor : ℕ) → live_at plan (path ++ k ∷ []) ≡ Some floor

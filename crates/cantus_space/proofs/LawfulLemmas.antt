@@ -6,9 +6,9 @@ use Rattle.std.proofs.lemmas.Bool.{and_parts}
 use Rattle.std.proofs.lemmas.List.{length-reverse, reverse-append, take-append-drop, take_more}
 use Rattle.fux_pitch.specs.declared.pitch.Pitch.{Pitch}
 use Rattle.cantus_space.specs.declared.plan.CantusPlan.{CantusPlan}
-use Rattle.cantus_space.specs.Ahead.{gauges_end}
+use Rattle.cantus_space.specs.Ahead.{floor_ends}
 use Rattle.cantus_space.specs.Lawful.{penalty_of}
-use Rattle.cantus_space.specs.Rules.{floor_of, is_live, may_come, paid}
+use Rattle.cantus_space.specs.Rules.{floor_of, is_live, may_come}
 
 -- the front of pitches with one more, from the newest to the oldest
 pub front-more : (ps : List Pitch) (i : ℕ) (p : Pitch) → i < length ps → p ≡ get_or ps i p
@@ -31,4 +31,4 @@ module _ (plan : CantusPlan) where
   pub floor-whole : (t : List Pitch) → length t ≡ plan.bars → floor_of plan (reverse t) ≡ penalty_of plan t
   floor-whole t whole =
       let long : plan.bars ≤ length (reverse t) = omega (arith, whole, length-reverse t) in
-      ap (λ n. paid plan.sheet (reverse t) + n) (gauges_end plan (reverse t) long)
+      floor_ends plan (reverse t) long

@@ -1,5 +1,5 @@
 -- What is kept of pitches tells which may come next, and what they cost at least.
-use Rattle.std.specs.Prelude.{◌≡◌, ℕ, ◌+◌, ◌-◌, ◌<◌, ◌==◌, pos, int_le, Bool, true, false, not, cond, ◌&&◌, ◌||◌, nat_le, nat_lt, [], ◌∷◌, ◌++◌, List, count_by, length, map, reverse, slice_set, take, if◌then◌else◌, refl}
+use Rattle.std.specs.Prelude.{◌≡◌, ℕ, suc, ◌+◌, ◌-◌, ◌<◌, ◌≤◌, ◌==◌, pos, int_le, int_lt, Bool, true, false, not, cond, ◌&&◌, ◌||◌, nat_le, nat_lt, [], ◌∷◌, ◌++◌, List, count_by, length, map, reverse, slice_set, take, if◌then◌else◌, refl}
 use Rattle.std.specs.Int.{from_bool}
 use Rattle.std.specs.List.{filter_map, list_any}
 use Rattle.std.proofs.Common.{arith, sym, ap, ◌∙◌}
@@ -10,16 +10,18 @@ use Rattle.fux_pitch.specs.declared.pitch.Pitch.{Pitch}
 use Rattle.fux_pitch.specs.Pitch.{key_of, same_pitch}
 use Rattle.fux_grid.specs.declared.cell.Cell.TheVariants.{Start}
 use Rattle.rule_law.specs.Law.{test_from_below}
-use Rattle.rule_law.specs.Terms.{started_pitch}
+use Rattle.rule_law.specs.Terms.{same_way, started_pitch}
 use Rattle.melody_rules.specs.GaugeParts.{IsCompassOf}
-use Rattle.melody_rules.specs.Gauges.{has_notes, is_narrow}
+use Rattle.melody_rules.specs.Gauges.{has_notes, is_narrow, leaps_in}
 use Rattle.melody_rules.specs.Held.{pitches_are}
 use Rattle.melody_rules.specs.Keys.{greatest_key, least_key}
-use Rattle.melody_rules.specs.Rows.{pitches}
+use Rattle.melody_rules.specs.Rows.{before_last, last_of, on_moves, pitches}
+use Rattle.cantus_prices.specs.declared.prices.CantusPrices.{CantusPrices}
 use Rattle.cantus_space.specs.declared.node.CantusNode.{CantusNode}
 use Rattle.cantus_space.specs.declared.plan.CantusPlan.{CantusPlan}
 use Rattle.cantus_space.specs.Ahead.{high_sounds, reaches_is}
 use Rattle.cantus_space.specs.Cantus.{is_in_pool}
+use Rattle.cantus_space.specs.Melody.{climax_bar, ends_by, least_ends, moves_one_way}
 use Rattle.cantus_space.specs.Nodes.{HasPitches, started}
 use Rattle.cantus_space.specs.Rules.{breaks_some_rule, is_last_climax, least_climax, least_compass, may_come, starts_ahead}
 
@@ -76,6 +78,57 @@ module _ (plan : CantusPlan) (behind : List Pitch) (node : CantusNode) (kept : H
   climax_by last own =
       ap (λ b. if b then node.climax.count - 1 else 0) own
       ∙ ap (λ n. if is_last_climax plan behind then n - 1 else 0) kept.climax.count
+
+-- no more moves go one way than there are pitches
+pub one_way-few : (ps : List Pitch) → moves_one_way ps ≤ length ps
+one_way-few [] = omega arith
+one_way-few (p ∷ ps) =
+    at (on_moves same_way (before_last ps) (last_of ps) (Start p)) (moves_one_way ps) (length ps) (one_way-few ps)
+  where
+    at : (b : Bool) (n m : ℕ) → n ≤ m → (if b then suc n else 1) ≤ suc m
+    at true n m h = omega (arith, h)
+    at false n m h = omega arith
+
+module _ (behind : List Pitch) (node : CantusNode) (kept : HasPitches behind node) where
+  pub newest : node.notes.last ≡ last_of behind
+  newest = kept.notes.last ∙ ap last_of (pitches-started behind)
+
+  pub one_before : node.notes.before ≡ before_last behind
+  one_before = kept.notes.before ∙ ap before_last (pitches-started behind)
+
+  same_move : (p : Pitch) → on_moves same_way node.notes.before node.notes.last (Start p)
+      ≡ on_moves same_way (before_last behind) (last_of behind) (Start p)
+  same_move p =
+      ap (λ o. on_moves same_way o node.notes.last (Start p)) one_before
+      ∙ ap (λ o. on_moves same_way (before_last behind) o (Start p)) newest
+
+  -- the moves on end one way, with one more pitch
+  pub moves_by : (p : Pitch) (on : Bool) → on ≡ on_moves same_way node.notes.before node.notes.last (Start p)
+      → (if on then suc node.moves else 1) ≡ moves_one_way (p ∷ behind)
+  moves_by p on e =
+      ap (λ b. if b then suc node.moves else 1) (e ∙ same_move p)
+      ∙ ap (λ n. if on_moves same_way (before_last behind) (last_of behind) (Start p) then suc n else 1) kept.moves
+
+  pub few_moves : node.moves ≤ node.len
+  few_moves = omega (arith, kept.moves, one_way-few behind, kept.count)
+
+  -- the bar of the climax, with one more pitch
+  pub top_by : (p : Pitch) (key : ℕ) → pos key ≡ key_of p
+      → (if nat_lt node.climax.greatest key then node.len + 1 else node.top) ≡ climax_bar (p ∷ behind)
+  top_by p key own =
+      ap (λ g. if int_lt g (pos key) then node.len + 1 else node.top) kept.climax.greatest
+      ∙ ap (λ k. if int_lt (greatest_key behind) k then node.len + 1 else node.top) own
+      ∙ ap (λ n. if int_lt (greatest_key behind) (key_of p) then n + 1 else node.top) kept.count
+      ∙ ap (λ n. if int_lt (greatest_key behind) (key_of p) then length behind + 1 else n) kept.top
+
+  -- what is paid at the end
+  pub ends_by_node : (prices : CantusPrices) (bars : ℕ)
+      → (if nat_le bars node.len then ends_by prices bars node.leaps.leaps node.top else 0)
+      ≡ least_ends prices bars behind
+  ends_by_node prices bars =
+      ap (λ n. if nat_le bars n then ends_by prices bars node.leaps.leaps node.top else 0) kept.count
+      ∙ ap (λ n. if nat_le bars (length behind) then ends_by prices bars n node.top else 0) kept.leaps.leaps
+      ∙ ap (λ n. if nat_le bars (length behind) then ends_by prices bars (leaps_in behind) n else 0) kept.top
 
 -- counts don't go by order
 pub count-reverse : (test : Pitch → Bool) (ps : List Pitch) → count_by test (reverse ps) ≡ count_by test ps

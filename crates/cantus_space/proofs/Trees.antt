@@ -13,13 +13,13 @@ use Rattle.tree_search.specs.Answer.{IsBefore, IsLeaf}
 use Rattle.tree_search.specs.Quests.{IsTreeOf, LeafAt, LivePath}
 use Rattle.tree_search.proofs.Quests.{same_path}
 use Rattle.cantus_space.specs.declared.plan.CantusPlan.{CantusPlan}
-use Rattle.cantus_space.specs.Ahead.{gauges_end}
+use Rattle.cantus_space.specs.Ahead.{floor_ends}
 use Rattle.cantus_space.specs.Grows.{comes, history-push, live_some, live_value}
 use Rattle.cantus_space.specs.Lawful.{IsEarlier, IsLawful, IsLive, penalty_of, quest_of}
 use Rattle.cantus_space.specs.Numbers.{WIDTH, numbered_pitch}
 use Rattle.cantus_space.specs.Order.{has_number, pitches_in_order}
 use Rattle.cantus_space.specs.Paths.{are_numbers, history_at, is_live_path, live_at, pitches_at}
-use Rattle.cantus_space.specs.Rules.{floor_of, is_live, may_come, paid}
+use Rattle.cantus_space.specs.Rules.{floor_of, is_live, may_come}
 use Rattle.cantus_space.proofs.Children.{numbers-push}
 
 -- ---- order
@@ -125,7 +125,7 @@ module _ (plan : CantusPlan) where
       ≡ penalty_of plan cantus
   floor_is_penalty cantus whole =
       let long : plan.bars ≤ length (reverse cantus) = omega (arith, whole, length-reverse cantus) in
-      ap (λ n. paid plan.sheet (reverse cantus) + n) (gauges_end plan (reverse cantus) long)
+      floor_ends plan (reverse cantus) long
 
   pub leaf_is_lawful : (path : List ℕ) (value : ℕ) → IsLeaf (live_at plan) plan.bars path value
       → IsLawful plan (pitches_at plan path) × (penalty_of plan (pitches_at plan path) ≡ value)

@@ -1,10 +1,11 @@
 -- What is ahead of a cantus, and what it lets the gauges say.
-use Rattle.std.specs.Prelude.{◌≡◌, ℕ, suc, ◌+◌, ◌-◌, ◌<◌, ◌≤◌, ℤ, pos, ◌≤ℤ◌, int_le, int_lt, Bool, true, false, cond, ◌==◌, ◌||◌, [], ◌∷◌, List, count_by, length, if◌then◌else◌, refl}
+use Rattle.std.specs.Prelude.{◌≡◌, ℕ, suc, ◌+◌, ◌-◌, ◌<◌, ◌≤◌, ℤ, pos, ◌≤ℤ◌, int_le, int_lt, Bool, true, false, cond, ◌==◌, ◌||◌, [], ◌∷◌, List, count_by, length, nat_le, if◌then◌else◌, refl}
 use Rattle.std.specs.Int.{from_bool, int_max}
 use Rattle.std.specs.List.{list_any, range_with_len}
 use Rattle.std.specs.Ordering.{int_eq}
 use Rattle.std.proofs.Common.{arith, sym, ap, ◌∙◌}
 use Rattle.std.proofs.lemmas.Bool.{ne_eqb, or_right}
+use Rattle.std.proofs.lemmas.Bool.Decides.{nat_tests}
 use Rattle.std.proofs.lemmas.Int.{ints}
 use Rattle.std.proofs.lemmas.List.FromFn.{get_or-range_with_len, length-range_with_len}
 use Rattle.std.proofs.lemmas.List.Sums.{sum_by-cons}
@@ -19,9 +20,10 @@ use Rattle.melody_rules.specs.GaugeLaws.{max_keeps}
 use Rattle.melody_rules.specs.Keys.{greatest_key}
 use Rattle.cantus_space.specs.declared.plan.CantusPlan.{CantusPlan}
 use Rattle.cantus_space.specs.Cantus.{is_in_pool, is_in_range, may_sound}
+use Rattle.cantus_space.specs.Melody.{charged, ends_cost, least_ends}
 use Rattle.cantus_space.specs.Numbers.{WIDTH, numbered_pitch}
 use Rattle.cantus_space.specs.Order.{has_number, pool_sounds}
-use Rattle.cantus_space.specs.Rules.{can_start, gauge_cost, is_last_climax, leap_excess, least_climax, least_compass, least_gauges, least_leaps, starts_ahead}
+use Rattle.cantus_space.specs.Rules.{can_start, gauge_cost, floor_of, is_last_climax, leap_excess, least_climax, least_compass, least_gauges, least_leaps, paid, starts_ahead, whole_cost}
 
 -- where a pool has a pitch, a note may start
 pub starts_if_pool : (plan : CantusPlan) (bar : ℕ) (p : Pitch) → is_in_pool plan bar p ≡ true → can_start plan bar ≡ true
@@ -157,3 +159,25 @@ gauges_end plan ps whole =
     (if (n == 0) || list_any (λ p. int_le (key_of plan.high) (key_of p)) ps then climax_repeats ps else 0)
     (if n == 0 then from_bool (is_narrow ps) else 0) (leap_excess ps - n) (beyond_fourth ps)) none
     ∙ ap (λ n. gauge_cost plan.sheet (climax_repeats ps) (from_bool (is_narrow ps)) n (beyond_fourth ps)) less
+
+-- ---- the prices
+
+-- where one more pitch comes, nothing is paid yet that is paid at the end
+pub no_ends : (plan : CantusPlan) (ps : List Pitch) → length ps < plan.bars → least_ends plan.prices plan.bars ps ≡ 0
+no_ends plan ps room =
+    let before : nat_le plan.bars (length ps) ≡ false = grind (arith, nat_tests) in
+    ap (λ b. if b then ends_cost plan.prices plan.bars ps else 0) before
+
+ends_there : (plan : CantusPlan) (ps : List Pitch) → plan.bars ≤ length ps
+    → least_ends plan.prices plan.bars ps ≡ ends_cost plan.prices plan.bars ps
+ends_there plan ps whole =
+    let there : nat_le plan.bars (length ps) ≡ true = grind (arith, nat_tests) in
+    ap (λ b. if b then ends_cost plan.prices plan.bars ps else 0) there
+
+-- of all pitches the floor is what they cost
+pub floor_ends : (plan : CantusPlan) (ps : List Pitch) → plan.bars ≤ length ps → floor_of plan ps
+    ≡ whole_cost plan.sheet ps + (charged plan.prices ps + ends_cost plan.prices plan.bars ps)
+floor_ends plan ps whole =
+    ap (λ n. paid plan.sheet ps + n + (charged plan.prices ps + least_ends plan.prices plan.bars ps))
+    (gauges_end plan ps whole)
+    ∙ ap (λ n. whole_cost plan.sheet ps + (charged plan.prices ps + n)) (ends_there plan ps whole)

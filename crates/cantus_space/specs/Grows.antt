@@ -8,7 +8,7 @@ use Rattle.fux_pitch.specs.declared.pitch.Pitch.{Pitch}
 use Rattle.rule_law.specs.Law.{below_from_test, first_true, second_true}
 use Rattle.tree_search.specs.Space.{FloorsGrow}
 use Rattle.cantus_space.specs.declared.plan.CantusPlan.{CantusPlan}
-use Rattle.cantus_space.specs.Ahead.{gauges_grow}
+use Rattle.cantus_space.specs.Ahead.{gauges_grow, no_ends}
 use Rattle.cantus_space.specs.Cantus.{is_in_pool}
 use Rattle.cantus_space.specs.Numbers.{WIDTH, numbered_pitch}
 use Rattle.cantus_space.specs.Paths.{are_numbers, history_at, is_live_path, live_at, pitches_at}
@@ -97,7 +97,7 @@ pub floor_grows : (plan : CantusPlan) (behind : List Pitch) (p : Pitch) → may_
 floor_grows plan behind p h =
     let on = comes plan behind p h in
     let gauges = gauges_grow plan behind p on.room on.pool in
-    omega (arith, gauges)
+    omega (arith, gauges, no_ends plan behind on.room)
 
 pub floors_grow : (plan : CantusPlan) → FloorsGrow (live_at plan) (λ path. WIDTH) plan.bars
 floors_grow plan path k floor h =

@@ -6,6 +6,7 @@ use Rattle.fux_pitch.specs.declared.pitch.Pitch.{Pitch}
 use Rattle.cantus_space.specs.declared.node.CantusNode.{CantusNode}
 use Rattle.cantus_space.specs.declared.plan.CantusPlan.{CantusPlan}
 use Rattle.cantus_space.specs.Cantus.{is_in_pool}
+use Rattle.cantus_space.specs.Melody.{charged}
 use Rattle.cantus_space.specs.Nodes.{HasPitches}
 use Rattle.cantus_space.specs.Numbers.{WIDTH, numbered_pitch}
 use Rattle.cantus_space.specs.Rules.{paid}
@@ -15,6 +16,8 @@ pub record IsKnownOf (plan : CantusPlan) (behind : List Pitch) (node : CantusNod
   pub kept : HasPitches behind node
   pub paid : node.paid ≡ paid plan.sheet behind
   pub little : node.paid ≤ 131070 * length behind
+  pub charged : node.charged ≡ charged plan.prices behind
+  pub little_charged : node.charged ≤ 262140 * length behind
 
 -- it does so of some pitches, no more than there are bars
 pub record IsKnown (plan : CantusPlan) (node : CantusNode) : Type 0 where

@@ -1,12 +1,13 @@
 -- Which cantus is lawful, what it costs, and which is best. A cantus goes from the first bar to the
 -- last.
-use Rattle.std.specs.Prelude.{◌≡◌, ℕ, ◌⊎◌, true, List, [], ◌∷◌, Some, length, reverse}
+use Rattle.std.specs.Prelude.{◌≡◌, ℕ, ◌+◌, ◌⊎◌, true, List, [], ◌∷◌, Some, length, reverse}
 use Rattle.std.specs.declared.cmp.Ordering.TheVariants.{Less}
 use Rattle.fux_pitch.specs.declared.pitch.Pitch.{Pitch}
 use Rattle.fux_grid.specs.Order.{pitch_order}
 use Rattle.tree_search.specs.Quests as quests
 use Rattle.tree_search.specs.Quests.{Quest}
 use Rattle.cantus_space.specs.declared.plan.CantusPlan.{CantusPlan}
+use Rattle.cantus_space.specs.Melody.{charged, ends_cost}
 use Rattle.cantus_space.specs.Rules.{floor_of, is_live, whole_cost}
 
 -- pitches from the first bar on begin a cantus so far as they go: each is of its bar's pool, and no
@@ -19,9 +20,11 @@ pub record IsLawful (plan : CantusPlan) (cantus : List Pitch) : Type 0 where
   pub live : IsLive plan cantus
   pub whole : length cantus ≡ plan.bars
 
--- what it costs, read as a free voice of species 1: Q7 to Q10, Q13 and Q17 to Q20
+-- what it costs: read as a free voice of species 1, Q7 to Q10, Q13 and Q17 to Q20; and C1 to C6
 abbrev pub penalty_of : CantusPlan → List Pitch → ℕ
-penalty_of plan cantus = whole_cost plan.sheet (reverse cantus)
+penalty_of plan cantus =
+    whole_cost plan.sheet (reverse cantus)
+    + (charged plan.prices (reverse cantus) + ends_cost plan.prices plan.bars (reverse cantus))
 
 -- of two that differ in a bar, the one with the lower pitch at the first such difference comes
 -- first

@@ -6,6 +6,7 @@ pub mod Grows
 pub mod Kept
 pub mod Known
 pub mod Lawful
+pub mod Melody
 pub mod Nodes
 pub mod Numbers
 pub mod Order

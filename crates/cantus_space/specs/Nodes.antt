@@ -8,6 +8,7 @@ use Rattle.melody_rules.specs.Gauges.{beyond_fourth}
 use Rattle.melody_rules.specs.Notes.{IsNotesOf}
 use Rattle.cantus_space.specs.declared.node.CantusNode.{CantusNode}
 use Rattle.cantus_space.specs.declared.plan.CantusPlan.{CantusPlan}
+use Rattle.cantus_space.specs.Melody.{charged, climax_bar, moves_one_way}
 use Rattle.cantus_space.specs.Rules.{is_live, paid}
 
 -- the cells in which the pitches start
@@ -23,6 +24,8 @@ pub record HasPitches (behind : List Pitch) (node : CantusNode) : Type 0 where
   pub climax : IsClimaxOf behind node.climax
   pub leaps : IsLeapsOf behind node.leaps
   pub beyond : node.beyond ≡ beyond_fourth behind
+  pub moves : node.moves ≡ moves_one_way behind
+  pub top : node.top ≡ climax_bar behind
 
 -- the pitches begin a cantus and break no rule, and the node knows what they cost so far
 pub record IsNodeOf (plan : CantusPlan) (behind : List Pitch) (node : CantusNode) : Type 0 where
@@ -31,3 +34,5 @@ pub record IsNodeOf (plan : CantusPlan) (behind : List Pitch) (node : CantusNode
   pub few : length behind ≤ plan.bars
   pub paid : node.paid ≡ paid plan.sheet behind
   pub little : node.paid ≤ 131070 * length behind
+  pub charged : node.charged ≡ charged plan.prices behind
+  pub little_charged : node.charged ≤ 262140 * length behind

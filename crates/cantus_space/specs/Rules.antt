@@ -12,6 +12,7 @@ use Rattle.penalty_sheet.specs.declared.sheet.Sheet.{Sheet}
 use Rattle.penalty_sheet.specs.Weights.{weight_of}
 use Rattle.cantus_space.specs.declared.plan.CantusPlan.{CantusPlan}
 use Rattle.cantus_space.specs.Cantus.{is_in_pool, may_sound}
+use Rattle.cantus_space.specs.Melody.{charged, least_ends}
 use Rattle.cantus_space.specs.Numbers.{WIDTH, numbered_pitch}
 
 -- S4 and S6 to S9. What else is asked of a cantus, S2 and its own forms K1 to K3, follows from the
@@ -102,6 +103,10 @@ abbrev pub least_gauges : CantusPlan → List Pitch → ℕ
 least_gauges plan ps =
     gauge_cost plan.sheet (least_climax plan ps) (least_compass plan ps) (least_leaps plan ps) (beyond_fourth ps)
 
--- the floor of pitches: the tolls so far, and what the gauges say at least
+-- what they pay of C1 to C6 at least: what they pay so far, and at their end where this is it
+abbrev pub least_melody : CantusPlan → List Pitch → ℕ
+least_melody plan ps = charged plan.prices ps + least_ends plan.prices plan.bars ps
+
+-- the floor of pitches: the tolls so far, what the gauges say at least, and the prices
 abbrev pub floor_of : CantusPlan → List Pitch → ℕ
-floor_of plan ps = paid plan.sheet ps + least_gauges plan ps
+floor_of plan ps = paid plan.sheet ps + least_gauges plan ps + least_melody plan ps

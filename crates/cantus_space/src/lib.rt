@@ -5,6 +5,7 @@
 mod ahead;
 mod costs;
 mod lawful;
+mod melody;
 mod node;
 mod notes;
 mod path;

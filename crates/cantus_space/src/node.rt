@@ -4,13 +4,17 @@ ghost use Rattle.std.specs.Prelude.{◌≡◌, ◌+◌, ◌*◌, ◌<◌, ◌≤
 ghost use Rattle.fux_pitch.specs.declared.pitch.Pitch.{Pitch as APitch};
 ghost use Rattle.melody_rules.specs.Gauges.{beyond_fourth};
 ghost use Rattle.cantus_space.specs.Cantus.{IsPlan};
+ghost use Rattle.cantus_space.specs.Melody as melody;
+ghost use Rattle.cantus_space.specs.Melody.{climax_bar, moves_one_way};
 ghost use Rattle.cantus_space.specs.Nodes.{HasPitches, IsNodeOf};
 ghost use Rattle.cantus_space.specs.Rules as rules;
 
 use crate::costs::{Gauged, gauge_cost, note_cost};
+use crate::melody::{goes_on, least_ends, note_charge, top_after};
 use crate::notes::{breaks_some_rule, times_struck};
 use crate::plan::CantusPlan;
 use crate::pools::is_in_pool;
+use cantus_prices::CantusPrices;
 use fux_grid::Cell;
 use fux_pitch::{Pitch, semitone};
 use melody_rules::{
@@ -30,7 +34,13 @@ pub struct CantusNode {
     pub(crate) leaps: Leaps,
     /// How many notes were beyond the fourth of their pitch.
     pub(crate) beyond: u8,
+    /// How many moves on end go one way.
+    pub(crate) moves: u8,
+    /// The bar in which the greatest key first sounds.
+    pub(crate) top: u8,
     pub(crate) paid: u64,
+    /// What C1, C3, C5 and C6 cost so far.
+    pub(crate) charged: u64,
 }
 
 impl CantusNode {
@@ -38,6 +48,7 @@ impl CantusNode {
     pub(crate) fn start(plan: &CantusPlan) -> CantusNode
         ensures pitches { HasPitches [] result }
         ensures paid { result.paid ≡ 0 }
+        ensures charged { result.charged ≡ 0 }
     {
         CantusNode {
             len: 0,
@@ -53,7 +64,10 @@ impl CantusNode {
                 leaps: 0,
             },
             beyond: 0,
+            moves: 0,
+            top: 0,
             paid: 0,
+            charged: 0,
         }
     }
 
@@ -93,13 +107,54 @@ impl CantusNode {
             .saturating_add(u8::from(times_struck(self.pitches(), pitch) >= 4))
     }
 
-    /// These pitches and one more, which costs so much.
-    pub(crate) fn with(&self, pitch: Pitch, cost: u64) -> CantusNode
+    /// How many moves on end go one way once one more pitch has come.
+    fn moves_with(&self, pitch: Pitch) -> u8
+        requires { self.now.len < 24 }
+        ensures { (behind : List APitch) → HasPitches behind self.now → result
+            ≡ moves_one_way (pitch ∷ behind) }
+    {
+        if goes_on(self.notes.before, self.notes.last, pitch) {
+            self.moves.saturating_add(1)
+        } else {
+            1
+        }
+    }
+
+    /// The bar in which the greatest key first sounds once one more pitch has come.
+    fn top_with(&self, pitch: Pitch) -> u8
+        requires { self.now.len < 24 }
+        ensures { (behind : List APitch) → HasPitches behind self.now → result
+            ≡ climax_bar (pitch ∷ behind) }
+    {
+        let bar = self.len as u8 + 1;
+        top_after(self.climax.greatest, semitone(pitch), bar, self.top)
+    }
+
+    /// What a pitch after these pays beyond that.
+    pub(crate) fn charge(&self, prices: &CantusPrices, pitch: Pitch) -> u64
+        requires { self.now.len < 24 }
+        ensures value { (behind : List APitch) → HasPitches behind self.now → result
+            ≡ melody.note_charge prices.now behind pitch }
+        ensures bound { result ≤ 262140 }
+    {
+        note_charge(
+            prices,
+            self.moves_with(pitch),
+            self.notes.before,
+            self.notes.last,
+            pitch,
+        )
+    }
+
+    /// These pitches and one more, which costs so much and pays so much beyond that.
+    pub(crate) fn with(&self, pitch: Pitch, cost: u64, charge: u64) -> CantusNode
         requires room { self.now.len < 24 }
         requires cost { self.now.paid + cost < 2 ^ 64 }
+        requires charge { self.now.charged + charge < 2 ^ 64 }
         ensures pitches { (behind : List APitch) → HasPitches behind self.now
             → HasPitches (pitch ∷ behind) result }
         ensures paid { result.paid ≡ self.now.paid + cost }
+        ensures charged { result.charged ≡ self.now.charged + charge }
     {
         let mut next = *self;
         next.pitches[self.len] = pitch;
@@ -108,7 +163,10 @@ impl CantusNode {
         next.climax = climax_with(self.climax, pitch);
         next.leaps = leaps_with(self.leaps, pitch);
         next.beyond = self.beyond_with(pitch);
+        next.moves = self.moves_with(pitch);
+        next.top = self.top_with(pitch);
         next.paid = self.paid + cost;
+        next.charged = self.charged + charge;
         next
     }
 
@@ -117,6 +175,7 @@ impl CantusNode {
         requires plan { IsPlan plan.now }
         requires room { self.now.len < plan.now.bars }
         requires paid { self.now.paid < 2 ^ 63 }
+        requires charged { self.now.charged < 2 ^ 62 }
         ensures { (behind : List APitch) → IsNodeOf plan.now behind self.now →
             MatchOption result (rules.is_live plan.now (pitch ∷ behind) ≡ false)
             (IsNodeOf plan.now (pitch ∷ behind)) }
@@ -124,7 +183,11 @@ impl CantusNode {
         if !self.may_go_on(plan, pitch) {
             return None;
         }
-        Some(self.with(pitch, self.cost(&plan.sheet, pitch)))
+        Some(self.with(
+            pitch,
+            self.cost(&plan.sheet, pitch),
+            self.charge(&plan.prices, pitch),
+        ))
     }
 
     /// Whether no pitch above all of these can come, with so many bars ahead in which one may.
@@ -167,11 +230,28 @@ impl CantusNode {
         }))
     }
 
+    /// C2 and C4, where these are the pitches of all bars.
+    fn least_ends(&self, plan: &CantusPlan) -> u64
+        ensures value { (behind : List APitch) → HasPitches behind self.now → result
+            ≡ melody.least_ends plan.now.prices plan.now.bars behind }
+        ensures bound { result ≤ 196605 }
+    {
+        least_ends(
+            &plan.prices,
+            plan.bars,
+            self.len,
+            self.leaps.leaps,
+            self.top,
+        )
+    }
+
     /// The floor, with so many bars ahead in which a pitch may come.
     pub(crate) fn floor(&self, plan: &CantusPlan, ahead: u8) -> u64
-        requires { self.now.paid < 2 ^ 63 }
+        requires paid { self.now.paid < 2 ^ 63 }
+        requires charged { self.now.charged < 2 ^ 62 }
         ensures { (behind : List APitch) → HasPitches behind self.now → self.now.paid
-            ≡ rules.paid plan.now.sheet behind → ahead ≡ rules.starts_ahead plan.now (length behind)
+            ≡ rules.paid plan.now.sheet behind → self.now.charged ≡ melody.charged plan.now.prices
+            behind → ahead ≡ rules.starts_ahead plan.now (length behind)
             → result ≡ rules.floor_of plan.now behind }
     {
         let said = Gauged {
@@ -180,6 +260,6 @@ impl CantusNode {
             leaps: leap_excess(self.leaps).saturating_sub(u32::from(ahead)),
             strikes: u32::from(self.beyond),
         };
-        self.paid + gauge_cost(&plan.sheet, said)
+        self.paid + gauge_cost(&plan.sheet, said) + (self.charged + self.least_ends(plan))
     }
 }

@@ -1,5 +1,6 @@
 //! What is asked of a cantus.
 
+use cantus_prices::CantusPrices;
 use fux_pitch::{Mode, Pitch};
 use penalty_sheet::Sheet;
 
@@ -15,4 +16,6 @@ pub struct CantusPlan {
     pub high: Pitch,
     /// The weights.
     pub sheet: Sheet,
+    /// What it pays for beyond them.
+    pub prices: CantusPrices,
 }

@@ -9,6 +9,7 @@ use crate::node::CantusNode;
 use crate::notes::broken_after;
 use crate::plan::CantusPlan;
 use crate::pools::{PITCHES, next_of_pool, numbered_pitch};
+use cantus_prices::CantusPrices;
 use fux_pitch::{Mode, Pitch, in_gamut};
 use penalty_sheet::Sheet;
 use rule_law::RuleSet;
@@ -37,8 +38,15 @@ impl Model for CantusSpace {
 
 impl CantusSpace {
     /// The space of the cantus of so many bars in a mode, from a low pitch to a high one, by a
-    /// sheet. It takes no memory.
-    pub fn new(mode: Mode, bars: u8, low: Pitch, high: Pitch, sheet: &Sheet) -> CantusSpace
+    /// sheet and by prices. It takes no memory.
+    pub fn new(
+        mode: Mode,
+        bars: u8,
+        low: Pitch,
+        high: Pitch,
+        sheet: &Sheet,
+        prices: &CantusPrices,
+    ) -> CantusSpace
         requires fewest { 3 ≤ bars }
         requires most { bars ≤ 24 }
         requires rise { key_of low ≤ℤ key_of high }
@@ -49,6 +57,8 @@ impl CantusSpace {
           high = high;
           sheet
               = sheet.now;
+          prices
+              = prices.now;
         } }
     {
         let plan = CantusPlan {
@@ -57,6 +67,7 @@ impl CantusSpace {
             low,
             high,
             sheet: *sheet,
+            prices: *prices,
         };
         CantusSpace {
             ahead: starts_ahead(&plan),
@@ -155,7 +166,11 @@ impl CantusSpace {
         ensures { (behind : List APitch) → IsKnownOf self.now behind node.now → IsKnownOf self.now
             (pitch ∷ behind) result }
     {
-        node.with(pitch, node.cost(&self.plan.sheet, pitch))
+        node.with(
+            pitch,
+            node.cost(&self.plan.sheet, pitch),
+            node.charge(&self.plan.prices, pitch),
+        )
     }
 
     /// What pitches cost at least, however they go on.

@@ -6,6 +6,7 @@ ghost use Rattle.cantus_space.specs.Paths.{live_at};
 ghost use Rattle.tree_search.specs.Answer.{IsFirstLeast};
 
 use crate::cantus_table::CASES;
+use cantus_prices::no_prices;
 use cantus_space::{CantusPlan, CantusSpace, cantus_of};
 use fux_pitch::{Mode, Pitch, parse_pitch, semitone};
 use penalty_sheet::{Sheet, default_sheet};
@@ -42,7 +43,7 @@ fn found_text(
 fn answer(alloc: Global, plan: &CantusPlan, budget: u32) -> Result<String, Fail>
     requires { IsPlan plan.now }
 {
-    let space = CantusSpace::new(plan.mode, plan.bars, plan.low, plan.high, &plan.sheet);
+    let space = CantusSpace::new(plan.mode, plan.bars, plan.low, plan.high, &plan.sheet, &plan.prices);
     let mut text = String::new(alloc);
     match search_front(alloc, &space, budget)? {
         Outcome::Found { path, value } => {
@@ -99,6 +100,7 @@ fn plan_of(asked: &str, sheet: Sheet) -> Result<CantusPlan, Fail>
         low,
         high,
         sheet,
+        prices: no_prices(),
     })
 }
 

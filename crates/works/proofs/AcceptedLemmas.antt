@@ -27,7 +27,7 @@ use Rattle.works.specs.Certified.{Certifies, IsAcceptable, IsCertificateOf, Show
 use Rattle.works.specs.Checked.{Checks, told}
 use Rattle.works.specs.Invented.{plan_of}
 use Rattle.works.specs.Searched.{IsNarrow}
-use Rattle.works.specs.Sheets.{OnSheet, sheet_said}
+use Rattle.works.specs.Sheets.{OnSheet, prices_in_use, sheet_said}
 use Rattle.works.specs.Texts.{OnText, Work}
 use Rattle.works.specs.Works.{Files}
 use Rattle.works.proofs.AgreeLemmas.{not_wide, sheet_of, text_of, width_of}
@@ -144,7 +144,7 @@ accepts_cantus plan files name bytes head (Err said) has text its = absurd its
 
 pub certified_cantus_is_accepted : CertifiedCantusIsAccepted
 certified_cantus_is_accepted wanted budget sheets written files name checked (inl made) unspent has (inl its) =
-    let plan = plan_of wanted made.sheet in
+    let plan = plan_of wanted made.sheet (prices_in_use sheets) in
     let same = one_sheet (sheet_said sheets) its.sheet made.sheet its.said made.said in
     let own = cantus_head_of plan budget written.verdict written.bytes made.made.shows unspent in
     record {
@@ -154,7 +154,7 @@ certified_cantus_is_accepted wanted budget sheets written files name checked (in
       certificate = own.certificate;
       accepted =
           accepts_cantus plan files name written.bytes own.head checked has (own.acceptable (made.made.fits unspent))
-          (subst (λ (s : Sheet). ChecksPlan (plan_of wanted s) files name checked) same its.made);
+          (subst (λ (s : Sheet). ChecksPlan (plan_of wanted s (prices_in_use sheets)) files name checked) same its.made);
     }
 certified_cantus_is_accepted wanted budget sheets written files name checked (inl made) unspent has (inr its) =
     let fault = sheet_of sheets its.refusal its.cause in

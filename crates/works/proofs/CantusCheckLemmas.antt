@@ -1,12 +1,14 @@
 -- What `checkcantus` tells of a certificate's file (`checked`), over the sheet in use (`of_sheet`,
 -- `of_no_sheet`).
-use Rattle.std.proofs.Common.{◌≡◌, ℕ, List, Result, Ok, Err, inl, inr, refl, ap, sym, ◌∙◌}
+use Rattle.std.proofs.Common.{◌≡◌, ℕ, List, Result, Ok, Err, inl, inr, refl, ap, subst, sym, ◌∙◌}
 use Rattle.cantus_check.specs.Answers.{IsVerdictOn}
 use Rattle.cantus_check.specs.Topics.{cantus_subject}
 use Rattle.cantus_check.proofs.RefusedLemmas.{cantus_once}
 use Rattle.cert_file.specs.Judgments as cert
 use Rattle.cert_file.proofs.OneVerdict.{one_verdict}
 use Rattle.cantus_law.specs.Claims.{Said}
+use Rattle.cantus_prices.specs.declared.prices.CantusPrices.{CantusPrices}
+use Rattle.cantus_prices.specs.declared.prices.PricedSheet.{PricedSheet}
 use Rattle.cantus_space.specs.declared.plan.CantusPlan.{CantusPlan}
 use Rattle.cantus_text.proofs.HeadRows.{heads-alone}
 use Rattle.cert_file.specs.declared.verdict.Verdict.{Verdict as CertVerdict}
@@ -23,7 +25,7 @@ use Rattle.works.specs.declared.work.Verdict.TheVariants.{Favorable, Unfavorable
 use Rattle.works.specs.CantusChecked.{ChecksCantusBy, ChecksPlan, IsAccepted, IsCantusChecked, IsOnlyVerdict, JudgesCantus}
 use Rattle.works.specs.Checked.{AnswersWithin, told}
 use Rattle.works.specs.Invented.{plan_of}
-use Rattle.works.specs.Sheets.{ReadsSheet, sheet_said}
+use Rattle.works.specs.Sheets.{ReadsPriced, prices_in_use, sheet_said}
 use Rattle.works.specs.Works.{Files, IsReadySheet}
 
 module _ (plan : CantusPlan) (files : Files) (name : List ℕ) (output : Output) where
@@ -65,16 +67,24 @@ module _ (plan : CantusPlan) (files : Files) (name : List ℕ) (output : Output)
   }
 
 module _ (wanted : Wanted) (files : Files) (certificate : List ℕ) (unread : Type 0) (sheets : List (List ℕ)) where
-  pub of_sheet : (sheet : Sheet) (answer : Result Output Unmade) → sheet_said sheets ≡ Ok sheet
-      → AnswersWithin (ChecksPlan (plan_of wanted sheet) files certificate) unread answer
+  of_plan : (sheet : Sheet) (answer : Result Output Unmade) → sheet_said sheets ≡ Ok sheet
+      → AnswersWithin (ChecksPlan (plan_of wanted sheet (prices_in_use sheets)) files certificate) unread answer
       → AnswersWithin (ChecksCantusBy wanted files certificate sheets) (IsReadySheet sheets × unread) answer
-  of_sheet sheet (Ok output) said made = inl record { sheet = sheet; said = said; made = made }
-  of_sheet sheet (Err (Stopped (Refused refusal))) said made = absurd made
-  of_sheet sheet (Err (Stopped Memory)) said made = tt
-  of_sheet sheet (Err Unreadable) said made = (record { sheet = sheet; said = said }, made)
+  of_plan sheet (Ok output) said made = inl record { sheet = sheet; said = said; made = made }
+  of_plan sheet (Err (Stopped (Refused refusal))) said made = absurd made
+  of_plan sheet (Err (Stopped Memory)) said made = tt
+  of_plan sheet (Err Unreadable) said made = (record { sheet = sheet; said = said }, made)
+
+  pub of_sheet : (priced : PricedSheet) (answer : Result Output Unmade) → ReadsPriced sheets (Ok priced)
+      → AnswersWithin (ChecksPlan (plan_of wanted priced.sheet priced.prices) files certificate) unread answer
+      → AnswersWithin (ChecksCantusBy wanted files certificate sheets) (IsReadySheet sheets × unread) answer
+  of_sheet priced answer read made =
+      of_plan priced.sheet answer read.0
+      (subst (λ (prices : CantusPrices).
+      AnswersWithin (ChecksPlan (plan_of wanted priced.sheet prices) files certificate) unread answer) (sym read.1) made)
 
   -- and where the sheet is refused, so is the whole
-  pub of_no_sheet : (stop : Stop) (answer : Result Output Unmade) → ReadsSheet sheets (Err stop)
+  pub of_no_sheet : (stop : Stop) (answer : Result Output Unmade) → ReadsPriced sheets (Err stop)
       → answer ≡ Err (Stopped stop)
       → AnswersWithin (ChecksCantusBy wanted files certificate sheets) (IsReadySheet sheets × unread) answer
   of_no_sheet (Refused refusal) answer cause e = rw e (inr record { refusal = refusal; is = refl; cause = cause })

@@ -40,7 +40,7 @@ use Rattle.works.specs.Endings.{IsCut, IsMade, IsRefused, IsUnread, IsWritten, S
 use Rattle.works.specs.declared.refusal.Refusal.{Refusal}
 use Rattle.works.specs.declared.refusal.Refusal.TheVariants as refusal
 use Rattle.works.specs.Searched.{IsNarrow, RefusesWidth}
-use Rattle.works.specs.Sheets.{RefusesSheet, sheet_said}
+use Rattle.works.specs.Sheets.{RefusesSheet, prices_in_use, sheet_said}
 use Rattle.works.specs.Texts.{RefusesText, Work}
 use Rattle.works.specs.Works.{AllHave, AreContents, AreRead, ChecksText, Files, IsClassOf, IsReadyFor, IsReadyText, Makes, Works}
 use Rattle.works.proofs.MakeLemmas.{have_bytes, works_on}
@@ -118,7 +118,8 @@ checked_is_there files certificate sheets text output (inr none) missing = cc no
 cantus_is_there : (wanted : Wanted) (files : Files) (certificate : List ℕ) (sheets : List (List ℕ)) (output : Output)
     → ChecksCantusBy wanted files certificate sheets (Ok output) → IsMissing files certificate → ⊥
 cantus_is_there wanted files certificate sheets output (inl over) missing =
-    may_be_there files certificate (IsCantusVerdict (plan_of wanted over.sheet) over.made.said) over.made.judges missing
+    may_be_there files certificate (IsCantusVerdict (plan_of wanted over.sheet (prices_in_use sheets)) over.made.said)
+    over.made.judges missing
 cantus_is_there wanted files certificate sheets output (inr none) missing = cc none.is
 
 class_is_there : (files : Files) (text name : List ℕ) (names : List (List ℕ)) (output : Output) → IsClassOf files text output

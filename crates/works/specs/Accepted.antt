@@ -19,7 +19,7 @@ use Rattle.works.specs.CantusChecked.{ChecksCantusBy}
 use Rattle.works.specs.Certified.{IsCertificateOf}
 use Rattle.works.specs.Checked.{told}
 use Rattle.works.specs.Invented.{plan_of}
-use Rattle.works.specs.Sheets.{sheet_said}
+use Rattle.works.specs.Sheets.{prices_in_use, sheet_said}
 use Rattle.works.specs.Texts.{Work}
 use Rattle.works.specs.Works.{CertifiesText, ChecksText, Files}
 
@@ -50,7 +50,7 @@ pub record IsCantusAcceptedFor (wanted : Wanted) (sheets : List (List ℕ)) (wri
     pub sheet : Sheet
     pub said : sheet_said sheets ≡ Ok sheet
     pub head : Said
-    pub certificate : of_cantus.IsCertificateOf (plan_of wanted sheet) head written.bytes
+    pub certificate : of_cantus.IsCertificateOf (plan_of wanted sheet (prices_in_use sheets)) head written.bytes
     pub accepted : checked ≡ Ok (told (Accepted (cantus.accepted_of head)))
 
 -- a certificate that `certcantus` writes, `checkcantus` of the same, with that certificate in a

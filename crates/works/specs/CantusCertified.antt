@@ -18,7 +18,7 @@ use Rattle.works.specs.declared.work.Verdict.{Verdict}
 use Rattle.works.specs.declared.work.Verdict.TheVariants.{Spent}
 use Rattle.works.specs.Composed.{TellsAs}
 use Rattle.works.specs.Invented.{plan_of}
-use Rattle.works.specs.Sheets.{OnSheet}
+use Rattle.works.specs.Sheets.{OnSheet, prices_in_use}
 use Rattle.works.specs.Texts.{Work}
 
 -- the bytes are the certificate that is written for a head, which is valid
@@ -77,7 +77,7 @@ CertifiesPlan plan budget (Err refusal) = RefusesCantus plan budget refusal
 -- `certcantus` makes this of what is asked, and of the file of a sheet where one is given
 abbrev pub MakesCantusCertificate : Wanted → ℕ → List (List ℕ) → Work → Type 0
 MakesCantusCertificate wanted budget sheets work =
-    OnSheet (λ sheet. CertifiesPlan (plan_of wanted sheet) budget) sheets work
+    OnSheet (λ sheet. CertifiesPlan (plan_of wanted sheet (prices_in_use sheets)) budget) sheets work
 
 -- the certificate of a head is the output, with this verdict, or it is too long
 abbrev pub CertifiesSaid : CantusPlan → Said → Verdict → Work → Type 0

@@ -16,7 +16,7 @@ use Rattle.works.specs.declared.work.Output.{Output}
 use Rattle.works.specs.declared.work.Verdict.TheVariants.{Favorable}
 use Rattle.works.specs.Checked.{told}
 use Rattle.works.specs.Invented.{plan_of}
-use Rattle.works.specs.Sheets.{OnSheet}
+use Rattle.works.specs.Sheets.{OnSheet, prices_in_use}
 use Rattle.works.specs.Texts.{Work}
 
 -- the verdict is that on the certificate in the file of this name
@@ -63,4 +63,4 @@ ChecksPlan plan files certificate (Err refusal) = ⊥
 -- of a sheet where one is given
 abbrev pub ChecksCantusBy : Wanted → Files → List ℕ → List (List ℕ) → Work → Type 0
 ChecksCantusBy wanted files certificate sheets work =
-    OnSheet (λ sheet. ChecksPlan (plan_of wanted sheet) files certificate) sheets work
+    OnSheet (λ sheet. ChecksPlan (plan_of wanted sheet (prices_in_use sheets)) files certificate) sheets work

@@ -13,17 +13,18 @@ ghost use Rattle.works.specs.Works.{AreContents};
 
 use crate::certifying::{penalty_fits, put_bound};
 use crate::complaint::Complaint;
+use crate::inventing::space_of;
 use crate::making::{read_weights, said_of};
 use crate::refusal::Refusal;
-use crate::weighing::sheet_of;
+use crate::weighing::priced_of;
 use crate::work::{Halt, Stop, Verdict};
+use cantus_prices::PricedSheet;
 use cantus_space::{CantusSpace, cantus_of};
 use cert_text::CertWrite;
 use class_marker::Text;
 use command_words::Wanted;
 use fux_pitch::Pitch;
 use fux_port::{Shelf, Sink};
-use penalty_sheet::Sheet;
 use std::alloc::Global;
 use tree_search::{Outcome, search_quest};
 
@@ -66,8 +67,8 @@ fn certify_over<K: Sink>(
         → WritesTo K.written K.faults K.serves (MakesCantusCertificate wanted.now budget sheets)
         out.old out.new result }
 {
-    let sheet = sheet_of(alloc, weights)?;
-    certify(alloc, wanted, &sheet, budget, out)
+    let priced = priced_of(alloc, weights)?;
+    certify(alloc, wanted, &priced, budget, out)
 }
 
 /// Writes the certificate of the best cantus over a sheet of weights, or that there is none, or a
@@ -75,15 +76,15 @@ fn certify_over<K: Sink>(
 fn certify<K: Sink>(
     alloc: Global,
     wanted: &Wanted,
-    sheet: &Sheet,
+    priced: &PricedSheet,
     budget: u32,
     out: &mut K,
 ) -> Result<Verdict, Halt>
     requires { IsWanted wanted.now }
-    ensures { WritesTo K.written K.faults K.serves (CertifiesPlan (plan_of wanted.now sheet.now)
-        budget) out.old out.new result }
+    ensures { WritesTo K.written K.faults K.serves (CertifiesPlan (plan_of wanted.now
+        priced.now.sheet priced.now.prices) budget) out.old out.new result }
 {
-    let space = CantusSpace::new(wanted.mode, wanted.bars, wanted.low, wanted.high, sheet);
+    let space = space_of(wanted, priced);
     let Ok(outcome) = search_quest(alloc, &space, budget) else {
         return Err(Halt::Stopped(Stop::Memory));
     };

@@ -14,15 +14,15 @@ ghost use Rattle.works.specs.Works.{AreContents, IsReadySheet};
 
 use crate::checking::output_on;
 use crate::complaint::Complaint;
+use crate::inventing::space_of;
 use crate::making::{read_weights, said_within};
-use crate::weighing::sheet_of;
+use crate::weighing::priced_of;
 use crate::work::{Output, Stop, Unmade};
 use cantus_check::{CantusFault, check_cantus_file};
-use cantus_space::CantusSpace;
+use cantus_prices::PricedSheet;
 use class_marker::Text;
 use command_words::Wanted;
 use fux_port::Shelf;
-use penalty_sheet::Sheet;
 use std::alloc::Global;
 
 /// The verdict on the certificate in a file for what is asked of a cantus, over the sheet in
@@ -69,28 +69,28 @@ fn check_over<F: Shelf>(
     ensures files { F.files shelf.new ≡ F.files shelf.old }
     ensures faults { F.faults shelf.old ≤ F.faults shelf.new }
 {
-    let sheet = sheet_of(alloc, weights)?;
-    check(alloc, wanted, &sheet, shelf, certificate)
+    let priced = priced_of(alloc, weights)?;
+    check(alloc, wanted, &priced, shelf, certificate)
 }
 
 /// The verdict, over a sheet of weights.
 fn check<F: Shelf>(
     alloc: Global,
     wanted: &Wanted,
-    sheet: &Sheet,
+    priced: &PricedSheet,
     shelf: &mut F,
     certificate: &str,
 ) -> Result<Output, Unmade>
     requires { IsWanted wanted.now }
-    ensures checks { AnswersWithin (ChecksPlan (plan_of wanted.now sheet.now) (F.files shelf.old)
-        certificate.now) (IsUnreadable F.files F.faults certificate.now shelf.old shelf.new)
+    ensures checks { AnswersWithin (ChecksPlan (plan_of wanted.now priced.now.sheet
+        priced.now.prices) (F.files shelf.old) certificate.now) (IsUnreadable F.files F.faults certificate.now shelf.old shelf.new)
         result }
     ensures served { ServesWhole (F.serves shelf.old) certificate.now 1073741824
         → IfErr result IsReadWithin }
     ensures files { F.files shelf.new ≡ F.files shelf.old }
     ensures faults { F.faults shelf.old ≤ F.faults shelf.new }
 {
-    let space = CantusSpace::new(wanted.mode, wanted.bars, wanted.low, wanted.high, sheet);
+    let space = space_of(wanted, priced);
     match check_cantus_file(alloc, &space, shelf, certificate) {
         Ok(verdict) => Ok(output_on(alloc, verdict)?),
         Err(CantusFault::Unreadable) => Err(Unmade::Unreadable),

@@ -14,14 +14,14 @@ use crate::complaint::Complaint;
 use crate::drilling::put_pitches;
 use crate::making::{read_weights, said};
 use crate::telling::{Telling, told};
-use crate::weighing::sheet_of;
+use crate::weighing::priced_of;
 use crate::work::{Output, Stop};
+use cantus_prices::PricedSheet;
 use cantus_space::{CantusSpace, cantus_of};
 use class_marker::Text;
 use command_words::{Search, Wanted};
 use fux_pitch::{Memory, Pitch};
 use fux_port::Shelf;
-use penalty_sheet::Sheet;
 use std::alloc::Global;
 use std::fmt::Write;
 
@@ -56,17 +56,22 @@ fn of_weights(
     ensures { (sheets : List (List ℕ)) → AreContents 65536 (as_list weights.now) sheets →
         Answers (MakesCantus wanted.now search sheets) result }
 {
-    let sheet = sheet_of(alloc, weights)?;
-    Ok(invent(alloc, wanted, &sheet, search)?)
+    let priced = priced_of(alloc, weights)?;
+    Ok(invent(alloc, wanted, &priced, search)?)
 }
 
 /// What is written of the best cantus, or of the one of a number, how many there are, or a bound.
-fn invent(alloc: Global, wanted: &Wanted, sheet: &Sheet, search: Search) -> Result<Output, Memory>
+fn invent(
+    alloc: Global,
+    wanted: &Wanted,
+    priced: &PricedSheet, search: Search
+    budget: u32,
+) -> Result<Output, Memory>
     requires { IsWanted wanted.now }
-    ensures { IfOk result (λ output. TellsCantus (plan_of wanted.now sheet.now) search
-        output.verdict output.bytes) }
+    ensures { IfOk result (λ output. TellsCantus (plan_of wanted.now priced.now) search.sheet
+        priced.now.prices) budget output.verdict output.bytes) }
 {
-    let space = CantusSpace::new(wanted.mode, wanted.bars, wanted.low, wanted.high, sheet);
+    let space = space_of(wanted, priced);
     Ok(told(alloc, &space, search)?)
 }
 
@@ -92,6 +97,21 @@ impl Telling for CantusSpace {
         let cantus = cantus_of(alloc, self, path)?;
         Ok(best_text(alloc, cantus.as_slice(), penalty)?.into_bytes())
     }
+}
+
+/// The space of the cantus that are as is asked, by a sheet with prices.
+pub fn space_of(wanted: &Wanted, priced: &PricedSheet) -> CantusSpace
+    requires { IsWanted wanted.now }
+    ensures { result ≡ plan_of wanted.now priced.now.sheet priced.now.prices }
+{
+    CantusSpace::new(
+        wanted.mode,
+        wanted.bars,
+        wanted.low,
+        wanted.high,
+        &priced.sheet,
+        &priced.prices,
+    )
 }
 
 /// The lines of a cantus and of a penalty.

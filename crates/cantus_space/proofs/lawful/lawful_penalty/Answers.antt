@@ -10,5 +10,11 @@ returns-clause-lawful c =
     let node = c.in_ok-node.ensures.live in
     let whole : length cantus ≡ plan.bars =
     c.if-cantus-plan.false ∙ ap (λ (p : CantusPlan). p.bars) c.plan.ensures.value in
-    let floor = c.floor.ensures (reverse cantus) record { kept = node.kept; paid = node.paid; little = node.little } in
+    let floor = c.floor.ensures (reverse cantus) record {
+      kept = node.kept;
+      paid = node.paid;
+      little = node.little;
+      charged = node.charged;
+      little_charged = node.little_charged;
+    } in
     (record { live = node.live; whole = whole }, sym (floor-whole plan cantus whole) ∙ sym floor)

@@ -9,6 +9,6 @@ returns-in_ok-output_on-in-Ok-clause-checks g c =
     let files = g.F.Shelf.files c.args.shelf.now in
     let name = c.args.certificate.now in
     let output = c.in_ok-output_on-in-Ok.field-0 in
-    subst (λ (plan : CantusPlan). IsCantusChecked plan files name output) c.new-space.ensures
-    (checked c.new-space.result files name output c.in-Ok.verdict c.in-Ok.ensures.answers c.in-Ok.ensures.accepts
+    subst (λ (plan : CantusPlan). IsCantusChecked plan files name output) c.space_of-space.ensures
+    (checked c.space_of-space.result files name output c.in-Ok.verdict c.in-Ok.ensures.answers c.in-Ok.ensures.accepts
     c.in_ok-output_on-in-Ok.ensures)

@@ -1,5 +1,5 @@
 use Rattle.std.proofs.Common.{subst}
-use Rattle.penalty_sheet.proofs.SheetLemmas.{long_sheet}
+use Rattle.cantus_prices.proofs.PricedLemmas.{long_sheet}
 use Rattle.class_marker.specs.Markings.{IsContent}
 use Rattle.works.proofs.weighing.sheet_in.Goals as goal
 

@@ -15,4 +15,6 @@ returns-clause-pitches c = λ behind kept.
       climax = c.climax_with-next.ensures behind few kept.climax;
       leaps = c.leaps_with-next.ensures behind few kept.leaps;
       beyond = c.beyond_with.ensures behind kept;
+      moves = c.moves_with.ensures behind kept;
+      top = c.top_with.ensures behind kept;
     }

@@ -15,5 +15,5 @@ returns c = λ behind known.
     let plan = c.self.inside.plan in
     let ahead : slice_index c.self.inside.ahead node.len ≡ starts_ahead plan (length behind) =
     c.self.invariant.counts node.len (omega (arith, here.kept.count, few)) ∙ ap (starts_ahead plan) here.kept.count in
-    c.floor.ensures behind here.kept here.paid ahead)
+    c.floor.ensures behind here.kept here.paid here.charged ahead)
     known (omega (arith, known.kept.count, c.requires.is_of.kept.count, c.requires.few))

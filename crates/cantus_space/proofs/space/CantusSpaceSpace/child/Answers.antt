@@ -21,7 +21,7 @@ returns-in-Some c = λ path here.
     let ahead : slice_index c.self.inside.ahead next.len ≡ starts_ahead plan (length (p ∷ history_at plan path)) =
     c.self.invariant.counts next.len (omega (arith, of.kept.count, of.few)) ∙ ap (starts_ahead plan) of.kept.count in
     child_lives plan path k there.numbers c.requires.within next p c.floor.result c.numbered_pitch.ensures of
-    (c.floor.ensures (p ∷ history_at plan path) of.kept of.paid ahead)) here
+    (c.floor.ensures (p ∷ history_at plan path) of.kept of.paid of.charged ahead)) here
 
 pub returns-in-None : goal.returns-in-None
 returns-in-None c = λ path here.

@@ -1,0 +1,2 @@
+pub mod PricedSheets
+pub mod Prices
