@@ -122,11 +122,11 @@ unfoldable pub title_row : Exercise → Option (Bor (List SheetMark)) → List �
 title_row ex marks =
     codes "<text x=\"78\" y=\"34\" font-size=\"20\">" ++ title_words ex marks ++ codes "</text>\n"
 
--- the picture of an exercise with these lines, staves and places of bars: its title, its bars, and
--- below them a penalty and the marks, where they are shown
-unfoldable pub page : Exercise → Option (Bor (List SheetMark)) → Option ℕ → List (List Cell) → List Staff → List BarPlace → List ℕ
-page ex marks penalty lines staves places =
-    head (page_end staves places + 50 + 17 * length (marks_of marks)) ++ title_row ex marks
+-- the picture of an exercise with these lines, staves and places of bars: the title of another one,
+-- its bars, and below them a penalty and the marks, where they are shown
+unfoldable pub page : Exercise → Exercise → Option (Bor (List SheetMark)) → Option ℕ → List (List Cell) → List Staff → List BarPlace → List ℕ
+page ex titled marks penalty lines staves places =
+    head (page_end staves places + 50 + 17 * length (marks_of marks)) ++ title_row titled marks
     ++ bars ex (marks_of marks) lines staves places
     ++ penalty_rows (page_end staves places + 14) penalty
     ++ mark_rows (page_end staves places + 34) (marks_of marks) ++ codes "</svg>\n"
@@ -135,8 +135,9 @@ page ex marks penalty lines staves places =
 abbrev pub staves_of : Exercise → Option (Bor (List SheetMark)) → List Staff
 staves_of ex marks = staves ex (marks_of marks) (lines_of ex)
 
--- the picture of an exercise: its bars stand where they have room, in systems of its staves
-abbrev pub picture_of : Exercise → Option (Bor (List SheetMark)) → Option ℕ → List ℕ
-picture_of ex marks penalty =
-    page ex marks penalty (lines_of ex) (staves_of ex marks)
+-- the picture of an exercise: its bars stand where they have room, in systems of its staves; its
+-- title is that of another one: of itself, or with other species
+abbrev pub picture_of : Exercise → Exercise → Option (Bor (List SheetMark)) → Option ℕ → List ℕ
+picture_of ex titled marks penalty =
+    page ex titled marks penalty (lines_of ex) (staves_of ex marks)
     (bar_places ex (lines_of ex) (system_height (staves_of ex marks)))

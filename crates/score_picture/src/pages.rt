@@ -97,9 +97,10 @@ fn put_title(out: &mut String, ex: &Exercise, marks: Option<&[SheetMark]>) -> Re
 /// The picture of an exercise with these lines, staves and places of bars. Its heights are of 128
 /// bits, so that none is too great.
 #[tactic(auto, unfolding(crate::specs::Pictures::page))]
-fn page(
+fn page<'e>(
     alloc: Global,
-    ex: &Exercise,
+    ex: &Exercise<'e>,
+    titled: &Exercise<'e>,
     marks: Option<&[SheetMark]>,
     penalty: Option<u64>,
     lines: &[List<Cell>],
@@ -108,14 +109,14 @@ fn page(
 ) -> Result<String, Memory>
     requires { All (λ staff. staff.voice < 8) staves.now }
     ensures { IfOk result (λ text. string_bytes text
-        ≡ page ex.now marks.entry penalty lines.now staves.now places.now) }
+        ≡ page ex.now titled.now marks.entry penalty lines.now staves.now places.now) }
 {
     let shown = marks_of(marks);
     let marked = Marked { ex, marks: shown };
     let end = page_end(staves, places);
     let mut out = String::new(alloc);
     put_head(&mut out, end + 50 + 17 * shown.len() as u128)?;
-    put_title(&mut out, ex, marks)?;
+    put_title(&mut out, titled, marks)?;
     put_bars(alloc, &mut out, &marked, lines, staves, places)?;
     put_penalty(&mut out, end + 14, penalty)?;
     put_marks(&mut out, end + 34, shown)?;
@@ -127,19 +128,22 @@ fn page(
 /// sheet to fill in, which has the cantus, the given notes, and empty bars. Where marks are given,
 /// the title says how many there are, their notes are red, their rules stand above the notes of
 /// their highest voices, and a list of them stands below. Where a penalty is given, it stands below
-/// the systems.
-pub fn picture(
+/// the systems. The title is that of the second exercise: the same one, or with the species by
+/// whose rules the marks are.
+pub fn picture<'e>(
     alloc: Global,
-    ex: &Exercise,
+    ex: &Exercise<'e>,
+    titled: &Exercise<'e>,
     marks: Option<&[SheetMark]>,
     penalty: Option<u64>,
 ) -> Result<String, Memory>
     requires { ex.now.voices ≤ 4 }
-    ensures { IfOk result (λ text. string_bytes text ≡ picture_of ex.now marks.entry penalty) }
+    ensures { IfOk result (λ text.
+        string_bytes text ≡ picture_of ex.now titled.now marks.entry penalty) }
 {
     let lines = lines_of(alloc, ex)?;
     let staves = staves(alloc, ex, marks_of(marks), &lines)?;
     let places = bar_places(alloc, ex, &lines, system_height(&staves))?;
-    let text = page(alloc, ex, marks, penalty, &lines, &staves, &places)?;
+    let text = page(alloc, ex, titled, marks, penalty, &lines, &staves, &places)?;
     Ok(text)
 }

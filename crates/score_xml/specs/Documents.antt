@@ -22,9 +22,9 @@ abbrev pub marks_of : Option (Bor (List SheetMark)) → List SheetMark
 marks_of None = []
 marks_of (Some marks) = marks.now
 
--- the document of an exercise
-unfoldable pub document : Exercise → Option (Bor (List SheetMark)) → List ℕ
-document ex marks =
-    HEAD.now ++ title ex marks
+-- the document of an exercise, with the title of another one: of itself, or with other species
+unfoldable pub document : Exercise → Exercise → Option (Bor (List SheetMark)) → List ℕ
+document ex titled marks =
+    HEAD.now ++ title titled marks
     ++ codes "<identification><encoding><software>fux</software></encoding></identification>\n"
     ++ part_list ex ++ parts ex (marks_of marks) ++ codes "</score-partwise>\n"

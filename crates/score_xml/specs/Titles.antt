@@ -6,7 +6,7 @@ use Rattle.std.specs.Borrow.{Bor}
 use Rattle.fux_pitch.specs.declared.mode.Mode.{Mode}
 use Rattle.fux_pitch.specs.declared.mode.Mode.TheVariants.{Dorian, Phrygian, Lydian, Mixolydian, Aeolian, Ionian}
 use Rattle.fux_grid.specs.declared.exercise.Exercise.{Exercise}
-use Rattle.fux_grid.specs.Exercises.{is_mixed}
+use Rattle.fux_grid.specs.Exercises.{is_mixed, species_in}
 use Rattle.written_notes.specs.declared.marks.SheetMark.{SheetMark}
 
 -- the name of a mode in a title
@@ -18,10 +18,19 @@ mode_title Mixolydian = codes "Mixolydian"
 mode_title Aeolian = codes "Aeolian"
 mode_title Ionian = codes "Ionian"
 
+-- what a title says of the species of a voice, where each has its own: nothing of the cantus
+unfoldable pub own_species : Exercise → ℕ → List ℕ
+own_species ex v =
+    codes ", voice " ++ decimal v ++ codes " species " ++ decimal (species_in ex v)
+
+abbrev pub voice_species : Exercise → ℕ → List ℕ
+voice_species ex v = if v == ex.cantus_voice then [] else own_species ex v
+
 -- what a title says of the species
 abbrev pub species_words : Exercise → List ℕ
 species_words ex =
-    if is_mixed ex then codes ", mixed species" else codes ", species " ++ decimal ex.species
+    if is_mixed ex then flat_map (voice_species ex) (range_with_len 0 ex.voices)
+    else codes ", species " ++ decimal ex.species
 
 -- the number of marks, where a sheet is marked
 abbrev pub mark_count : Option (Bor (List SheetMark)) → List ℕ

@@ -61,19 +61,21 @@ pub fn marks_of(marks: Option<&[SheetMark]>) -> &[SheetMark]
 /// The MusicXML document of an exercise, the highest voice first: of its setting; without one of
 /// the sheet to fill in, which has the cantus, the given notes, and rests. Where marks are given,
 /// the title says how many there are, their notes are red, and their rules stand above the notes
-/// of their highest voices.
+/// of their highest voices. The title is that of the second exercise: the same one, or with the
+/// species by whose rules the marks are.
 #[tactic(auto, unfolding(crate::specs::Documents::document))]
-pub fn score_xml(
+pub fn score_xml<'e>(
     alloc: Global,
-    ex: &Exercise,
+    ex: &Exercise<'e>,
+    titled: &Exercise<'e>,
     marks: Option<&[SheetMark]>,
 ) -> Result<String, Memory>
     requires { ex.now.voices ≤ 4 }
-    ensures { IfOk result (λ text. string_bytes text ≡ document ex.now marks.entry) }
+    ensures { IfOk result (λ text. string_bytes text ≡ document ex.now titled.now marks.entry) }
 {
     let mut out = String::new(alloc);
     out.push_str(HEAD)?;
-    put_title(&mut out, ex, marks)?;
+    put_title(&mut out, titled, marks)?;
     out.push_str(
         "<identification><encoding><software>fux</software></encoding></identification>\n",
     )?;

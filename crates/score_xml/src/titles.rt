@@ -1,9 +1,10 @@
 //! The title of a document, and the names of its parts.
 
 ghost use Rattle.std.specs.Prelude.{◌≡◌, ◌++◌, OnOk, string_bytes};
-ghost use Rattle.score_xml.specs.Titles.{called, cantus_called, free_called, mark_count, mode_title, part_name, part_names, part_list, species_words, title, title_words};
+ghost use Rattle.std.specs.List.{flat_map, range_with_len};
+ghost use Rattle.score_xml.specs.Titles.{called, cantus_called, free_called, mark_count, mode_title, own_species, part_name, part_names, part_list, species_words, title, title_words, voice_species};
 
-use fux_grid::{Exercise, is_mixed};
+use fux_grid::{Exercise, is_mixed, species_of};
 use fux_pitch::{Memory, Mode};
 use std::fmt::Write;
 use written_notes::SheetMark;
@@ -22,16 +23,47 @@ fn mode_title(mode: Mode) -> &'static str
     }
 }
 
+/// Appends what a title says of the species of a voice that has its own.
+#[tactic(auto, unfolding(crate::specs::Titles::own_species))]
+fn put_own_species(out: &mut String, ex: &Exercise, v: u8) -> Result<(), Memory>
+    ensures { OnOk result (string_bytes out.new ≡ string_bytes out.old ++ own_species ex.now v) }
+{
+    let species = species_of(ex, v);
+    write!(out, ", voice {v}")?;
+    write!(out, " species {species}")?;
+    Ok(())
+}
+
+/// Appends what a title says of the species of a voice, where each has its own.
+fn put_voice_species(out: &mut String, ex: &Exercise, v: u8) -> Result<(), Memory>
+    ensures { OnOk result (string_bytes out.new ≡ string_bytes out.old ++ voice_species ex.now v) }
+{
+    if v == ex.cantus_voice {
+        return Ok(());
+    }
+    put_own_species(out, ex, v)
+}
+
+/// Appends what a title says of the species of all voices, where each has its own.
+fn put_mixed_species(out: &mut String, ex: &Exercise) -> Result<(), Memory>
+    ensures { OnOk result (string_bytes out.new ≡ string_bytes out.old
+        ++ flat_map (voice_species ex.now) (range_with_len 0 ex.now.voices)) }
+{
+    for v in 0..ex.voices {
+        put_voice_species(out, ex, v)?;
+    }
+    Ok(())
+}
+
 /// Appends what a title says of the species.
 fn put_species(out: &mut String, ex: &Exercise) -> Result<(), Memory>
     ensures { OnOk result (string_bytes out.new ≡ string_bytes out.old ++ species_words ex.now) }
 {
     if is_mixed(ex) {
-        out.push_str(", mixed species")?;
-    } else {
-        let species = ex.species;
-        write!(out, ", species {species}")?;
+        return put_mixed_species(out, ex);
     }
+    let species = ex.species;
+    write!(out, ", species {species}")?;
     Ok(())
 }
 

@@ -13,7 +13,7 @@ use written_notes::SheetMark;
 /// The document of a note text.
 fn document(alloc: Global, text: &str, marks: Option<&[SheetMark]>) -> Result<String, Fail> {
     match read(alloc, text.as_bytes()) {
-        Ok(ex) => Ok(score_xml(alloc, &ex, marks)?),
+        Ok(ex) => Ok(score_xml(alloc, &ex, &ex, marks)?),
         Err(TextFault::Memory) => Err("out of memory".into()),
         Err(TextFault::At { .. }) => Err("a fault of the text".into()),
     }

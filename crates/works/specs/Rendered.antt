@@ -47,18 +47,19 @@ WritesSmf ex = Renders ex smf_of
 
 -- `toxml` makes this of an exercise, with or without a setting
 abbrev pub WritesXml : Exercise → Work → Type 0
-WritesXml ex (Ok output) = (output.bytes ≡ document ex None) × (output.verdict ≡ Favorable)
+WritesXml ex (Ok output) = (output.bytes ≡ document ex ex None) × (output.verdict ≡ Favorable)
 WritesXml ex (Err refusal) = ⊥
 
 -- a mark as a sheet shows it
 abbrev pub shown_mark : Mark → SheetMark
 shown_mark mark = record { bar = mark.bar; slot = mark.slot; rule = mark.rule; voices = mark.voices }
 
--- an output is the document of an exercise with the notes of these marks in red
-pub record ShowsMarks (ex : Exercise) (marks : List Mark) (output : Output) : Type 0 where
+-- an output is the document of an exercise with the notes of these marks in red, and with the title
+-- of the exercise by whose rules they are
+pub record ShowsMarks (ex rules : Exercise) (marks : List Mark) (output : Output) : Type 0 where
   pub shown : Bor (List SheetMark)
   pub are_shown : shown.now ≡ map shown_mark marks
-  pub bytes : output.bytes ≡ document ex (Some shown)
+  pub bytes : output.bytes ≡ document ex rules (Some shown)
   pub verdict : output.verdict ≡ marks_verdict (nat_lt 0 (length marks))
 
 -- an output is the document of the setting of an exercise with exactly the marks in red that it has
@@ -68,7 +69,7 @@ pub record IsMarkedDocument (ex rules : Exercise) (output : Output) : Type 0 whe
   pub given : ex.setting ≡ Some score
   pub marks : List Mark
   pub exact : AreMarks rules score.columns marks
-  pub told : ShowsMarks ex marks output
+  pub told : ShowsMarks ex rules marks output
 
 -- `markxml` makes this of an exercise by the rules of another one, which is the mixed one where
 -- species are named, and else itself
@@ -84,7 +85,7 @@ shown_penalty wanted sheet ex =
 -- `picture` makes this of an exercise, with or without a setting
 abbrev pub Pictures : Bool → Sheet → Exercise → Work → Type 0
 Pictures wanted sheet ex (Ok output) =
-    (output.bytes ≡ picture_of ex None (shown_penalty wanted sheet ex)) × (output.verdict ≡ Favorable)
+    (output.bytes ≡ picture_of ex ex None (shown_penalty wanted sheet ex)) × (output.verdict ≡ Favorable)
 Pictures wanted sheet ex (Err refusal) = ⊥
 
 -- an output is the picture of the setting of an exercise with exactly its marks in red, by the
@@ -96,7 +97,7 @@ pub record IsMarkedPicture (ex rules : Exercise) (output : Output) : Type 0 wher
   pub exact : AreMarks rules score.columns marks
   pub shown : Bor (List SheetMark)
   pub are_shown : shown.now ≡ map shown_mark marks
-  pub bytes : output.bytes ≡ picture_of ex (Some shown) None
+  pub bytes : output.bytes ≡ picture_of ex rules (Some shown) None
   pub verdict : output.verdict ≡ marks_verdict (nat_lt 0 (length marks))
 
 -- `markpicture` makes this of an exercise, by its own rules or those of a mixed one

@@ -226,7 +226,8 @@ fn mark_xml_mixed(alloc: Global, m: &Mixed<'_>) -> Result<Output, Stop>
         return Err(Stop::Refused(Refusal::NoSetting));
     };
     let marks = mixed_marks(alloc, m, score)?;
-    Ok(marked_document(alloc, m.ex, marks.as_slice())?)
+    let rules = mixed_as(m.ex, m.species);
+    Ok(marked_document(alloc, m.ex, &rules, marks.as_slice())?)
 }
 
 /// The picture of the setting of a mixed exercise, with the notes of its marks in red.
@@ -239,6 +240,7 @@ fn picture_mixed(alloc: Global, m: &Mixed<'_>) -> Result<Output, Stop>
     };
     let marks = mixed_marks(alloc, m, score)?;
     let shown = shown_marks(alloc, marks.as_slice())?;
-    let text = picture(alloc, m.ex, Some(shown.as_slice()), None)?;
+    let rules = mixed_as(m.ex, m.species);
+    let text = picture(alloc, m.ex, &rules, Some(shown.as_slice()), None)?;
     Ok(Output::of_text(verdict_of(marks.as_slice()), text))
 }

@@ -51,7 +51,7 @@ pub fn to_xml(alloc: Global, ex: &Exercise) -> Result<Output, Stop>
     requires { IsValid ex.now }
     ensures { Answers (WritesXml ex.now) result }
 {
-    Ok(Output::of_text(Verdict::Favorable, score_xml(alloc, ex, None)?))
+    Ok(Output::of_text(Verdict::Favorable, score_xml(alloc, ex, ex, None)?))
 }
 
 /// A mark as a sheet shows it.
@@ -88,13 +88,19 @@ pub fn verdict_of(marks: &[Mark]) -> Verdict
     }
 }
 
-/// The MusicXML document of an exercise, with the notes of these marks in red.
-pub fn marked_document(alloc: Global, ex: &Exercise, marks: &[Mark]) -> Result<Output, Memory>
+/// The MusicXML document of an exercise, with the notes of these marks in red, and with the title of
+/// the exercise by whose rules they are.
+pub fn marked_document<'e>(
+    alloc: Global,
+    ex: &Exercise<'e>,
+    rules: &Exercise<'e>,
+    marks: &[Mark],
+) -> Result<Output, Memory>
     requires { IsValid ex.now }
-    ensures { IfOk result (ShowsMarks ex.now marks.now) }
+    ensures { IfOk result (ShowsMarks ex.now rules.now marks.now) }
 {
     let shown = shown_marks(alloc, marks)?;
-    let text = score_xml(alloc, ex, Some(shown.as_slice()))?;
+    let text = score_xml(alloc, ex, rules, Some(shown.as_slice()))?;
     Ok(Output::of_text(verdict_of(marks), text))
 }
 
@@ -107,7 +113,7 @@ pub fn mark_xml(alloc: Global, ex: &Exercise) -> Result<Output, Stop>
         return Err(Stop::Refused(Refusal::NoSetting));
     };
     let marks = marks(alloc, ex, score)?;
-    Ok(marked_document(alloc, ex, marks.as_slice())?)
+    Ok(marked_document(alloc, ex, ex, marks.as_slice())?)
 }
 
 /// The penalty of the setting of an exercise over a sheet of weights, where it is wanted.
@@ -131,7 +137,7 @@ pub fn to_picture(alloc: Global, ex: &Exercise, sheet: &Sheet, wanted: bool) -> 
     ensures { Answers (Pictures wanted sheet.now ex.now) result }
 {
     let penalty = shown_penalty(ex, sheet, wanted);
-    let text = picture(alloc, ex, None, penalty)?;
+    let text = picture(alloc, ex, ex, None, penalty)?;
     Ok(Output::of_text(Verdict::Favorable, text))
 }
 
@@ -145,6 +151,6 @@ pub fn mark_picture(alloc: Global, ex: &Exercise) -> Result<Output, Stop>
     };
     let marks = marks(alloc, ex, score)?;
     let shown = shown_marks(alloc, marks.as_slice())?;
-    let text = picture(alloc, ex, Some(shown.as_slice()), None)?;
+    let text = picture(alloc, ex, ex, Some(shown.as_slice()), None)?;
     Ok(Output::of_text(verdict_of(marks.as_slice()), text))
 }
