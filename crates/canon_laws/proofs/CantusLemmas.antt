@@ -21,7 +21,8 @@ use Rattle.penalty_sheet.specs.declared.sheet.Sheet.{Sheet}
 use Rattle.penalty_sheet.specs.Weights.{weight_of}
 use Rattle.canon_space.specs.Rules.{columns_of}
 use Rattle.cantus_space.specs.declared.plan.CantusPlan.{CantusPlan}
-use Rattle.cantus_space.specs.Rules.{charge, gauge_cost, leap_excess, least_gauges, note_cost, paid}
+use Rattle.cantus_space.specs.Melody.{charged, ends_cost}
+use Rattle.cantus_space.specs.Rules.{charge, gauge_cost, leap_excess, least_gauges, least_melody, note_cost, paid}
 use Rattle.canon_laws.specs.BookCosts.{costs_in_bar}
 use Rattle.canon_laws.specs.CantusCosts.{CantusFloorIsTheBooks, CantusPenaltyIsTheBooks, NoteCostsAreTheBooks, alone, bars_of, note_bar, tolls_paid, voice_paid}
 use Rattle.canon_laws.proofs.BarColumns.{held_columns, reverse-columns}
@@ -177,8 +178,10 @@ gauges_are sheet cells ps is =
 
 pub cantus_penalty_is_the_books : CantusPenaltyIsTheBooks
 cantus_penalty_is_the_books plan cantus =
-    ap₂ (λ a b. a + b) (paid_is plan cantus)
+    ap₂ (λ a b. a + b + (charged plan.prices (reverse cantus) + ends_cost plan.prices plan.bars (reverse cantus)))
+    (paid_is plan cantus)
     (sym (gauges_are plan.sheet (cells_of_voice (columns_of (bars_of cantus)) 0) (reverse cantus) (line_is cantus)))
 
 pub cantus_floor_is_the_books : CantusFloorIsTheBooks
-cantus_floor_is_the_books plan front = ap (λ k. k + least_gauges plan (reverse front)) (paid_is plan front)
+cantus_floor_is_the_books plan front =
+    ap (λ k. k + least_gauges plan (reverse front) + least_melody plan (reverse front)) (paid_is plan front)

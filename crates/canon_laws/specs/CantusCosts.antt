@@ -1,12 +1,13 @@
 -- What a new cantus costs and what the book's tolls and gauges do: read as a free voice of first
 -- species alone, whose notes each fill a bar, it pays just what the book's tolls of one voice and
--- the gauges of its line cost.
+-- the gauges of its line cost, and beyond that the prices of a cantus alone.
 use Rattle.std.specs.Prelude.{◌≡◌, ℕ, ◌+◌, List, [], ◌∷◌, ◌++◌, None, length, map, reverse}
 use Rattle.canon_laws.specs.BookCosts.{tolls_in_bar, voice_tolls}
 use Rattle.canon_space.specs.Rules.{columns_of}
 use Rattle.cantus_space.specs.declared.plan.CantusPlan.{CantusPlan}
 use Rattle.cantus_space.specs.Lawful.{penalty_of}
-use Rattle.cantus_space.specs.Rules.{floor_of, least_gauges, note_cost}
+use Rattle.cantus_space.specs.Melody.{charged, ends_cost}
+use Rattle.cantus_space.specs.Rules.{floor_of, least_gauges, least_melody, note_cost}
 use Rattle.fux_grid.specs.declared.cell.Cell.{Cell}
 use Rattle.fux_grid.specs.declared.cell.Cell.TheVariants.{Start}
 use Rattle.fux_grid.specs.declared.exercise.Exercise.{Exercise}
@@ -53,15 +54,19 @@ NoteCostsAreTheBooks =
     (plan : CantusPlan) (behind : List Pitch) (p : Pitch) (after : List Pitch)
     → note_cost plan.sheet behind p ≡ voice_paid plan (reverse behind ++ p ∷ after) (length behind)
 
--- a cantus costs what they cost in all bars, and what the book's gauges say of its line
+-- a cantus costs what they cost in all bars, what the book's gauges say of its line, and what it pays
+-- of C1 to C6
 abbrev pub CantusPenaltyIsTheBooks : Type 0
 CantusPenaltyIsTheBooks =
     (plan : CantusPlan) (cantus : List Pitch)
     → penalty_of plan cantus
     ≡ tolls_paid plan cantus + cost_of_line plan.sheet (cells_of_voice (columns_of (bars_of cantus)) 0)
+    + (charged plan.prices (reverse cantus) + ends_cost plan.prices plan.bars (reverse cantus))
 
--- and the floor of pitches that begin one is what they cost so far, and what is known of the gauges
+-- and the floor of pitches that begin one is what they cost so far, what is known of the gauges, and
+-- what they pay of C1 to C6 at least
 abbrev pub CantusFloorIsTheBooks : Type 0
 CantusFloorIsTheBooks =
     (plan : CantusPlan) (front : List Pitch)
-    → floor_of plan (reverse front) ≡ tolls_paid plan front + least_gauges plan (reverse front)
+    → floor_of plan (reverse front)
+    ≡ tolls_paid plan front + least_gauges plan (reverse front) + least_melody plan (reverse front)

@@ -21,8 +21,8 @@ pub fn canons_pay_by_the_book()
 
 /// A law, and nothing to run: a new cantus, read as a free voice of first species alone, costs
 /// exactly what the book's tolls of one voice cost at the columns of its bars and the gauges say of
-/// its line; and the floor of what begins one is what these tolls cost so far, and what is known of
-/// the gauges.
+/// its line, and beyond that what it pays of C1 to C6; and the floor of what begins one is what
+/// these tolls cost so far, what is known of the gauges, and what it pays of C1 to C6 at least.
 pub fn cantus_pays_by_the_book()
     ensures note { NoteCostsAreTheBooks }
     ensures whole { CantusPenaltyIsTheBooks }

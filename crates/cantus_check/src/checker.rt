@@ -87,7 +87,14 @@ fn same_space(space: &CantusSpace) -> CantusSpace
     ensures { result ≡ space.now }
 {
     let plan = space.plan();
-    CantusSpace::new(plan.mode, plan.bars, plan.low, plan.high, &plan.sheet, &plan.prices)
+    CantusSpace::new(
+        plan.mode,
+        plan.bars,
+        plan.low,
+        plan.high,
+        &plan.sheet,
+        &plan.prices,
+    )
 }
 
 impl CantusChecker {

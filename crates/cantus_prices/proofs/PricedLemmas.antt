@@ -16,7 +16,7 @@ use Rattle.penalty_sheet.specs.declared.sheet.Sheet.{Sheet}
 use Rattle.penalty_sheet.specs.Sheets.{document_of, document_said, fault_or, first_fault, said_by, sheet_of, top_fault, unless_wrong, weights_said}
 use Rattle.cantus_prices.specs.declared.prices.PricedSheet.{PricedSheet}
 use Rattle.cantus_prices.specs.Prices.{no_prices}
-use Rattle.cantus_prices.specs.PricedSheets.{HasNoPrices, HasPricedFault, IsPricedSheetOf, SaysAsBefore, both_said, key_fault, priced_by, priced_of, priced_said, prices_said, unless_at_fault, with_no_prices}
+use Rattle.cantus_prices.specs.PricedSheets.{HasPricedFault, IsPricedSheetOf, SaysAsBefore, both_said, key_fault, priced_by, priced_of, priced_said, prices_said, unless_at_fault, with_no_prices}
 
 -- too many bytes
 pub long_sheet : (bytes : List ℕ) → 65536 < length bytes → priced_of bytes ≡ Err TooLong

@@ -86,9 +86,9 @@ fn priced_document(alloc: Global, document: &Table) -> Result<PricedSheet, Sheet
 }
 
 /// Reads a sheet that may have prices: a TOML document of at most 65,536 bytes whose keys are among
-/// `cantus` and `weights`. The value of `weights` is what `penalty_sheet` reads; that of `cantus` is
-/// a table with whole numbers from 0 to 10,000 for some of `C1` to `C6`. A price that is left out
-/// is 0.
+/// `cantus` and `weights`. The value of `weights` is what `penalty_sheet` reads; that of `cantus`
+/// is a table with whole numbers from 0 to 10,000 for some of `C1` to `C6`. A price that is left
+/// out is 0.
 pub fn read_prices(alloc: Global, bytes: &[u8]) -> Result<PricedSheet, SheetFault>
     ensures ok { IfOk result (IsPricedSheetOf bytes.now) }
     ensures fault { IfErr result (λ fault. fault ≢ SheetFault.Memory → HasPricedFault bytes.now

@@ -43,6 +43,13 @@ pub(crate) fn case_of(
 {
     let head = head_of(alloc, best)?;
     let plan = space.plan();
-    let space = CantusSpace::new(plan.mode, plan.bars, plan.low, plan.high, &plan.sheet, &plan.prices);
+    let space = CantusSpace::new(
+        plan.mode,
+        plan.bars,
+        plan.low,
+        plan.high,
+        &plan.sheet,
+        &plan.prices,
+    );
     Ok(CantusCase { space, head })
 }

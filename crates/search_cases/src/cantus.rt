@@ -43,7 +43,14 @@ fn found_text(
 fn answer(alloc: Global, plan: &CantusPlan, budget: u32) -> Result<String, Fail>
     requires { IsPlan plan.now }
 {
-    let space = CantusSpace::new(plan.mode, plan.bars, plan.low, plan.high, &plan.sheet, &plan.prices);
+    let space = CantusSpace::new(
+        plan.mode,
+        plan.bars,
+        plan.low,
+        plan.high,
+        &plan.sheet,
+        &plan.prices,
+    );
     let mut text = String::new(alloc);
     match search_front(alloc, &space, budget)? {
         Outcome::Found { path, value } => {
