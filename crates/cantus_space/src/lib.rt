@@ -14,6 +14,7 @@ mod pools;
 mod space;
 
 pub use lawful::lawful_penalty;
+pub use melody::{is_altered, is_central, is_the, leaves_leap, price_if};
 pub use node::CantusNode;
 pub use path::cantus_of;
 pub use plan::CantusPlan;

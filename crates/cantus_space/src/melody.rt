@@ -28,7 +28,7 @@ fn stays_out(leap: Interval, next: Interval) -> bool
 }
 
 /// Whether the next pitch comes after a leap, and not by a step the other way.
-fn leaves_leap(before: Option<Pitch>, last: Option<Pitch>, pitch: Pitch) -> bool
+pub fn leaves_leap(before: Option<Pitch>, last: Option<Pitch>, pitch: Pitch) -> bool
     ensures { result ≡ on_moves words.stays_out before last (Start pitch) }
 {
     match (before, last) {
@@ -38,14 +38,14 @@ fn leaves_leap(before: Option<Pitch>, last: Option<Pitch>, pitch: Pitch) -> bool
 }
 
 /// Whether a pitch is altered.
-fn is_altered(pitch: Pitch) -> bool
+pub fn is_altered(pitch: Pitch) -> bool
     ensures { result ≡ words.is_altered pitch }
 {
     pitch.alter() != 0
 }
 
 /// Whether a pitch is this one, where there is one.
-fn is_the(other: Option<Pitch>, pitch: Pitch) -> bool
+pub fn is_the(other: Option<Pitch>, pitch: Pitch) -> bool
     ensures { result ≡ words.is_the other pitch }
 {
     match other {
@@ -55,7 +55,7 @@ fn is_the(other: Option<Pitch>, pitch: Pitch) -> bool
 }
 
 /// A price where it has to be paid, else nothing.
-fn price_if(stands: bool, price: u16) -> u64
+pub fn price_if(stands: bool, price: u16) -> u64
     ensures value { result ≡ words.price_if stands price }
     ensures bound { result ≤ 65535 }
 {
@@ -87,7 +87,7 @@ pub fn top_after(greatest: u8, key: u8, bar: u8, top: u8) -> u8
 }
 
 /// Whether a bar lies in the middle half of the bars.
-fn is_central(bars: u8, bar: u8) -> bool
+pub fn is_central(bars: u8, bar: u8) -> bool
     ensures { result ≡ words.is_central bars bar }
 {
     let place = 4 * u32::from(bar);

@@ -27,17 +27,17 @@ use penalty_sheet::Sheet;
 /// cost so far.
 #[derive(Clone, Copy, Debug, PartialEq, Eq)]
 pub struct CantusNode {
-    pub(crate) len: usize,
+    pub len: usize,
     pub(crate) pitches: [Pitch; 24],
-    pub(crate) notes: VoiceNotes,
-    pub(crate) climax: Climax,
-    pub(crate) leaps: Leaps,
+    pub notes: VoiceNotes,
+    pub climax: Climax,
+    pub leaps: Leaps,
     /// How many notes were beyond the fourth of their pitch.
-    pub(crate) beyond: u8,
+    pub beyond: u8,
     /// How many moves on end go one way.
-    pub(crate) moves: u8,
+    pub moves: u8,
     /// The bar in which the greatest key first sounds.
-    pub(crate) top: u8,
+    pub top: u8,
     pub(crate) paid: u64,
     /// What C1, C3, C5 and C6 cost so far.
     pub(crate) charged: u64,
