@@ -28,16 +28,20 @@ voices_named voices text =
     if same_text (voices_word None) text then Some None
     else option_map (λ bits. Some (record { bits = bits })) (find (is_set text) (range_with_len 1 (2 ^ voices - 1)))
 
--- `relax RULE VOICES FROM TO PRICE`: a rule from S4 to S26, a set of voices or `all`, bars that
--- don't go down, and a price of 0 to 10,000; what is wrong or missing is `word`
-abbrev pub relax_row : Exercise → Row TextKind Relax
-relax_row ex =
+-- `relax RULE VOICES FROM TO PRICE`, of so many voices and bars: a rule from S4 to S26, a set of
+-- voices or `all`, bars that don't go down, and a price of 0 to 10,000; what is wrong or missing is
+-- `word`
+abbrev pub relax_of : ℕ → ℕ → Row TextKind Relax
+relax_of most bars =
     Row.place (named_place kinds.Word kinds.Word rule_named) (λ rule.
-    Row.place (named_place kinds.Word kinds.Word (voices_named ex.voices)) (λ voices.
-    Row.place (number_place kinds.Word 1 ex.bars) (λ from.
-    Row.place (number_place kinds.Word from ex.bars) (λ to.
+    Row.place (named_place kinds.Word kinds.Word (voices_named most)) (λ voices.
+    Row.place (number_place kinds.Word 1 bars) (λ from.
+    Row.place (number_place kinds.Word from bars) (λ to.
     Row.place (number_place kinds.Word 0 10000) (λ price.
     Row.ends kinds.Word (record { rule = rule; voices = voices; from = from; to = to; price = price }))))))
+
+abbrev pub relax_row : Exercise → Row TextKind Relax
+relax_row ex = relax_of ex.voices ex.bars
 
 -- the relax lines, up to the limit
 abbrev pub relax_lines_of : Exercise → Many TextKind Relax

@@ -118,8 +118,8 @@ fn whole_bar(cells: &[Given]) -> Option<[Given; 8]>
     }
 }
 
-/// Reads the items of a bar, with which the line ends.
-fn given_in(alloc: Global, words: Words<'_>, voice: u8, bar: u8) -> Result<GivenBar, TextFault>
+/// Reads the items of the bar of a `given` line, with which the line ends.
+pub fn given_in(alloc: Global, words: Words<'_>, voice: u8, bar: u8) -> Result<GivenBar, TextFault>
     ensures { Gives (λ x. x) result (row_in (Row.runs (given_run voice bar) [])
         (words_of words.entry)) }
 {

@@ -18,23 +18,45 @@ use fux_pitch::{AnyList, Mode, Pitch};
 use std::alloc::Global;
 use text_lines::{Lines, Words, parse_within};
 
-/// Reads `mode M`.
-#[tactic(auto, unfolding(text_lines::specs::Tables::line_in, text_lines::specs::Rows::row_in))]
-fn mode_line(text: Lines<'_>) -> Result<(Mode, Lines<'_>), TextFault>
-    ensures { Gives (λ x. (x.0, lines_of x.1)) result (line_in Head Head (codes "mode") mode_row
-        (lines_of text.entry)) }
+/// Reads the mode of a `mode` line, with which the line ends.
+#[tactic(auto, unfolding(text_lines::specs::Rows::row_in))]
+pub fn mode_in(words: Words<'_>) -> Result<Mode, TextFault>
+    ensures { Gives (λ x. x) result (row_in mode_row (words_of words.entry)) }
 {
-    let (words, text) = text.headed(TextKind::Head, TextKind::Head, b"mode")?;
     let (word, words) = words.next(TextKind::Word)?;
     let Some(mode) = parse_mode(word.text) else {
         return Err(word.fault(TextKind::Word));
     };
     words.done(TextKind::Word)?;
+    Ok(mode)
+}
+
+/// Reads `mode M`.
+#[tactic(auto, unfolding(text_lines::specs::Tables::line_in))]
+fn mode_line(text: Lines<'_>) -> Result<(Mode, Lines<'_>), TextFault>
+    ensures { Gives (λ x. (x.0, lines_of x.1)) result (line_in Head Head (codes "mode") mode_row
+        (lines_of text.entry)) }
+{
+    let (words, text) = text.headed(TextKind::Head, TextKind::Head, b"mode")?;
+    let mode = mode_in(words)?;
     Ok((mode, text))
 }
 
+/// Reads a number from `least` to `most`, with which the line ends.
+#[tactic(auto, unfolding(text_lines::specs::Rows::row_in, text_lines::specs::Reading::number_in))]
+pub fn number_in(words: Words<'_>, kind: TextKind, least: u8, most: u8) -> Result<u8, TextFault>
+    ensures value { Gives (λ x. x) result
+        (row_in (number_row kind least most) (words_of words.entry)) }
+    ensures least { IfOk result (λ n. least ≤ n) }
+    ensures most { IfOk result (λ n. n ≤ most) }
+{
+    let (number, words) = words.small_number(kind, least, most)?;
+    words.done(TextKind::Word)?;
+    Ok(number)
+}
+
 /// Reads a line of a name and a number from `least` to `most`.
-#[tactic(auto, unfolding(text_lines::specs::Tables::line_in, text_lines::specs::Rows::row_in, text_lines::specs::Reading::number_in))]
+#[tactic(auto, unfolding(text_lines::specs::Tables::line_in))]
 fn number_line<'a>(
     text: Lines<'a>,
     name: &[u8],
@@ -48,8 +70,7 @@ fn number_line<'a>(
     ensures most { IfOk result (λ x. x.0 ≤ most) }
 {
     let (words, text) = text.headed(TextKind::Head, TextKind::Head, name)?;
-    let (number, words) = words.small_number(kind, least, most)?;
-    words.done(TextKind::Word)?;
+    let number = number_in(words, kind, least, most)?;
     Ok((number, text))
 }
 
@@ -61,18 +82,27 @@ pub fn version_line(text: Lines<'_>) -> Result<(u8, Lines<'_>), TextFault>
     number_line(text, b"fux", TextKind::Word, 1, NEWEST_VERSION)
 }
 
+/// Reads a species and its voice, of so many, with which the line ends.
+#[tactic(auto, unfolding(text_lines::specs::Rows::row_in, text_lines::specs::Reading::number_in, text_lines::specs::Reading::literal))]
+pub fn species_in(words: Words<'_>, voices: u8) -> Result<(u8, u8), TextFault>
+    ensures { Gives (λ x. x) result (row_in (species_row voices) (words_of words.entry)) }
+{
+    let (species, words) = words.small_number(TextKind::Word, 1, MOST_SPECIES)?;
+    let words = words.literal(TextKind::Word, b"voice")?;
+    let (voice, words) = words.small_number(TextKind::Word, 0, voices.saturating_sub(1))?;
+    words.done(TextKind::Word)?;
+    Ok((species, voice))
+}
+
 /// Reads `species N voice V`.
-#[tactic(auto, unfolding(text_lines::specs::Tables::line_in, text_lines::specs::Rows::row_in, text_lines::specs::Reading::number_in, text_lines::specs::Reading::literal))]
+#[tactic(auto, unfolding(text_lines::specs::Tables::line_in))]
 fn species_line(text: Lines<'_>, voices: u8) -> Result<((u8, u8), Lines<'_>), TextFault>
     ensures { Gives (λ x. (x.0, lines_of x.1)) result (line_in Head Head (codes "species")
         (species_row voices) (lines_of text.entry)) }
 {
     let (words, text) = text.headed(TextKind::Head, TextKind::Head, b"species")?;
-    let (species, words) = words.small_number(TextKind::Word, 1, MOST_SPECIES)?;
-    let words = words.literal(TextKind::Word, b"voice")?;
-    let (voice, words) = words.small_number(TextKind::Word, 0, voices.saturating_sub(1))?;
-    words.done(TextKind::Word)?;
-    Ok(((species, voice), text))
+    let species = species_in(words, voices)?;
+    Ok((species, text))
 }
 
 /// A voice of so many, but not this one.
@@ -99,7 +129,7 @@ pub fn pitch_in(words: Words<'_>, kind: TextKind) -> Result<(Pitch, Words<'_>), 
 }
 
 /// Reads so many pitches behind a voice, with which the line ends.
-fn pitches_in(
+pub fn pitches_in(
     alloc: Global,
     words: Words<'_>,
     voice: u8,

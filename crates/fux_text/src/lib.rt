@@ -20,7 +20,12 @@ mod sing;
 mod sing_lines;
 
 pub use fault::{TextFault, TextKind};
+pub use given_lines::given_in;
+pub use head::{mode_in, number_in, pitch_in, pitches_in, species_in};
 pub use names::{parse_mode, parse_pitch};
 pub use note_text::{sing_line, write};
+pub use ranges::{bars_in, high_in};
 pub use read_back::{text_reads_back, texts_are_read, words_read_back};
 pub use reading::{read, read_sing};
+pub use relaxing::relax_in;
+pub use sing::sung_in;

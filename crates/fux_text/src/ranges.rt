@@ -62,8 +62,8 @@ fn voice_in<'a>(
     Ok((voice, words))
 }
 
-/// Reads HIGH, whose key isn't below that of LOW.
-fn high_in(words: Words<'_>, low: Pitch) -> Result<(Pitch, Words<'_>), TextFault>
+/// Reads the highest pitch of a range line, whose key isn't below that of the lowest.
+pub fn high_in(words: Words<'_>, low: Pitch) -> Result<(Pitch, Words<'_>), TextFault>
     ensures { Gives (λ x. (x.0, words_of x.1)) result
         (place_in (high_place low) (words_of words.entry)) }
 {
@@ -91,9 +91,14 @@ fn later_bars_in(words: Words<'_>, bars: u8, line: RangeLine) -> Result<RangeLin
     })
 }
 
-/// Reads the bars of a later line of a voice. Its first line has none.
+/// Reads the bars of a range line, where it is a later one of its voice: the first has none.
 #[tactic(auto, unfolding(text_lines::specs::Rows::row_in))]
-fn bars_in(words: Words<'_>, later: bool, bars: u8, line: RangeLine) -> Result<RangeLine, TextFault>
+pub fn bars_in(
+    words: Words<'_>,
+    later: bool,
+    bars: u8,
+    line: RangeLine,
+) -> Result<RangeLine, TextFault>
     ensures { Gives (λ x. x) result (row_in (bars_row later bars line) (words_of words.entry)) }
 {
     if later {

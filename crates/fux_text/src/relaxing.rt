@@ -9,7 +9,7 @@ ghost use Rattle.text_lines.specs.Rows.{named_place, place_in, row_in};
 ghost use Rattle.text_lines.specs.Tables.{goes_on, line_in, many_in};
 ghost use Rattle.text_lines.specs.Words.{words_of};
 ghost use Rattle.fux_text.specs.Lines.{voices_word};
-ghost use Rattle.fux_text.specs.Relaxing.{is_set, relax_lines_of, relax_row, rule_named, voices_named};
+ghost use Rattle.fux_text.specs.Relaxing.{is_set, relax_lines_of, relax_of, relax_row, rule_named, voices_named};
 
 use crate::fault::{TextFault, TextKind};
 use crate::limits::MOST_RELAX;
@@ -112,16 +112,16 @@ fn set_in(words: Words<'_>, voices: u8) -> Result<(Option<VoiceSet>, Words<'_>),
     }
 }
 
-/// Reads the words behind `relax`.
+/// Reads the words behind `relax`, of so many voices and bars.
 #[tactic(auto, unfolding(text_lines::specs::Rows::row_in, text_lines::specs::Reading::number_in))]
-fn relax_in(words: Words<'_>, ex: &Exercise) -> Result<Relax, TextFault>
-    requires { ex.now.voices ≤ 4 }
-    ensures { Gives (λ x. x) result (row_in (relax_row ex.now) (words_of words.entry)) }
+pub fn relax_in(words: Words<'_>, most: u8, bars: u8) -> Result<Relax, TextFault>
+    requires { most ≤ 4 }
+    ensures { Gives (λ x. x) result (row_in (relax_of most bars) (words_of words.entry)) }
 {
     let (rule, words) = rule_in(words)?;
-    let (voices, words) = set_in(words, ex.voices)?;
-    let (from, words) = words.small_number(TextKind::Word, 1, ex.bars)?;
-    let (to, words) = words.small_number(TextKind::Word, from, ex.bars)?;
+    let (voices, words) = set_in(words, most)?;
+    let (from, words) = words.small_number(TextKind::Word, 1, bars)?;
+    let (to, words) = words.small_number(TextKind::Word, from, bars)?;
     let (price, words) = words.number(TextKind::Word, 0, 10_000)?;
     words.done(TextKind::Word)?;
     Ok(Relax {
@@ -141,7 +141,7 @@ fn relax_line<'a>(text: Lines<'a>, ex: &Exercise) -> Result<(Relax, Lines<'a>), 
         (line_in Head Head (codes "relax") (relax_row ex.now) (lines_of text.entry)) }
 {
     let (words, text) = text.headed(TextKind::Head, TextKind::Head, b"relax")?;
-    let line = relax_in(words, ex)?;
+    let line = relax_in(words, ex.voices, ex.bars)?;
     Ok((line, text))
 }
 

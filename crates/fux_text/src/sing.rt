@@ -193,7 +193,7 @@ fn sung_end(cells: &[Cell], bars: u8, bar: u8) -> Option<TextKind>
 }
 
 /// Reads the words of a `sing` line behind its voice: its cells.
-fn sung_in(alloc: Global, words: Words<'_>, bars: u8) -> Result<Vec<Cell>, TextFault>
+pub fn sung_in(alloc: Global, words: Words<'_>, bars: u8) -> Result<Vec<Cell>, TextFault>
     requires { 1 ≤ bars }
     ensures { Gives (λ x. x.items) result (row_in (Row.runs (sung_run bars) (0, []))
         (words_of words.entry)) }
