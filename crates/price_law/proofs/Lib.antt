@@ -1,0 +1,5 @@
+pub mod RestLaws
+pub mod Ways
+pub mod ListSums
+pub mod Excluded
+pub mod WebRests

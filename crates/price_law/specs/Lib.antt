@@ -1,0 +1,4 @@
+pub mod LeastRests
+pub mod PriceLists
+pub mod Certificates
+pub mod WebRests
