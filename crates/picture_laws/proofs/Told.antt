@@ -5,24 +5,14 @@ use Rattle.std.proofs.lemmas.Bool.{cases_order}
 use Rattle.fux_pitch.specs.Pitch.{degree_of}
 use Rattle.fux_grid.specs.declared.cell.Cell.{Cell}
 use Rattle.fux_grid.specs.declared.exercise.Exercise.{Exercise}
-use Rattle.written_notes.specs.declared.bar.Written.{Written}
 use Rattle.written_notes.specs.declared.marks.SheetMark.{SheetMark}
 use Rattle.sheet_layout.specs.declared.page.BarPlace.{BarPlace}
 use Rattle.sheet_layout.specs.declared.page.BarRoom.{BarRoom}
 use Rattle.sheet_layout.specs.Pages.{bar_room, next_place, place_of, staff_of, staves_end}
-use Rattle.sheet_layout.specs.Spacing.{all_notes, room_of, slot_x}
-use Rattle.sheet_layout.proofs.Apart.{slots-apart}
+use Rattle.sheet_layout.specs.Spacing.{all_notes, slot_x}
+use Rattle.sheet_layout.proofs.Apart.{rooms-grow, slots-apart}
 use Rattle.sheet_layout.proofs.Within.{within}
 use Rattle.picture_laws.specs.Told.{IsDrawn, PlacesTellNotes, SheetHead, page_x, page_y}
-
--- more slots have no less room
-rooms-grow : (all : List Written) (a b : ℕ) → a ≤ b → room_of all a ≤ room_of all b
-rooms-grow all a zero h = let e : a ≡ 0 = omega (arith, h) in rw e (omega arith)
-rooms-grow all a (suc b) h =
-    elim (le-suc_iff.0 h) [
-      | inl below ↦ omega (arith, rooms-grow all a b below)
-      | inr e ↦ rw e (omega arith)
-    ]
 
 -- a bar stands in a later system than another one, or behind it in the same
 abbrev IsBehind : ℕ → BarPlace → BarPlace → Type 0
@@ -75,9 +65,9 @@ module _ (ex : Exercise) (lines : List (List Cell)) (tall : ℕ) where
 
   -- each slot stands within its bar
   slot-within : (bar slot : ℕ) → slot < 8
-      → slot_x (all_notes lines bar) slot < (place_of ex lines tall (suc bar)).room.width
+      → slot_x (all_notes ex lines bar) slot < (place_of ex lines tall (suc bar)).room.width
   slot-within bar slot h =
-      let all = all_notes lines bar in
+      let all = all_notes ex lines bar in
       omega (arith, rooms-grow all (suc slot) 8 h, ap (λ (room : BarRoom). room.width) (place-room bar))
 
 -- more staves end no higher
@@ -161,9 +151,9 @@ module _ (ex : Exercise) (marks : List SheetMark) (lines : List (List Cell)) (ta
       omega (
         arith,
         x,
-        slots-apart (all_notes lines one.bar) one.slot other.slot before drawn-one.starts,
+        slots-apart (all_notes ex lines one.bar) one.slot other.slot before drawn-one.starts,
         ap (λ bar. (place_of ex lines tall (suc bar)).left) same,
-        ap (λ bar. slot_x (all_notes lines bar) other.slot) same,
+        ap (λ bar. slot_x (all_notes ex lines bar) other.slot) same,
       )
 
 neither : (a b : ℕ) → (a < b → ⊥) → (b < a → ⊥) → a ≡ b

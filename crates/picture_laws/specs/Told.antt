@@ -21,7 +21,7 @@ pub record SheetHead : Type 0 where
 pub record IsDrawn (ex : Exercise) (lines : List (List Cell)) (head : SheetHead) : Type 0 where
   pub staff : head.staff < ex.voices
   pub slot : head.slot < 8
-  pub starts : IsTrue (begins (all_notes lines head.bar) head.slot)
+  pub starts : IsTrue (begins (all_notes ex lines head.bar) head.slot)
   pub sounds : pitch_of (cell_in (slice_index_or lines (ex.voices - suc head.staff) []) (8 * head.bar + head.slot))
       ≡ Some head.pitch
   pub degree : degree_of head.pitch ≤ 150
@@ -29,7 +29,7 @@ pub record IsDrawn (ex : Exercise) (lines : List (List Cell)) (head : SheetHead)
 -- where it stands on the page, from the left
 abbrev pub page_x : Exercise → List (List Cell) → ℕ → SheetHead → ℕ
 page_x ex lines tall head =
-    (place_of ex lines tall (suc head.bar)).left + slot_x (all_notes lines head.bar) head.slot
+    (place_of ex lines tall (suc head.bar)).left + slot_x (all_notes ex lines head.bar) head.slot
 
 -- and from the top, where a system is so tall; heights in a staff say 600 for its middle line
 abbrev pub page_y : Exercise → List SheetMark → List (List Cell) → ℕ → SheetHead → ℕ

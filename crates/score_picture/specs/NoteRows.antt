@@ -1,19 +1,14 @@
 -- The rows of the notes of a bar of a voice.
-use Rattle.std.specs.Prelude.{ℕ, ◌+◌, ◌-◌, ◌*◌, ◌==◌, Bool, true, false, List, [], ◌∷◌, ◌++◌, Option, None, Some, codes, is_some, min, slice_index_or, if◌then◌else◌}
+use Rattle.std.specs.Prelude.{ℕ, ◌+◌, ◌-◌, Bool, List, [], ◌∷◌, ◌++◌, Option, None, Some, codes, if◌then◌else◌}
 use Rattle.std.specs.Fmt.{decimal}
-use Rattle.std.specs.List.{flat_map, prefix_len, range_with_len}
+use Rattle.std.specs.List.{flat_map}
 use Rattle.std.specs.Option.{option_map_or}
-use Rattle.fux_grid.specs.declared.cell.Cell.{Cell}
 use Rattle.fux_grid.specs.declared.exercise.Exercise.{Exercise}
-use Rattle.fux_grid.specs.declared.given.Given.{Given}
-use Rattle.fux_grid.specs.declared.given.Given.TheVariants.{Blank, Rest, Tied, Hold, Start}
-use Rattle.fux_grid.specs.Exercises.{given_at}
 use Rattle.written_notes.specs.declared.bar.Written.{Written}
 use Rattle.written_notes.specs.declared.marks.SheetMark.{SheetMark}
 use Rattle.written_notes.specs.declared.marks.Spot.{Spot}
-use Rattle.written_notes.specs.Bars.{bar_notes}
 use Rattle.written_notes.specs.Marks.{is_red, rules_at}
-use Rattle.written_notes.specs.Values.{value_of}
+use Rattle.written_notes.specs.Sheets.{is_left}
 use Rattle.sheet_layout.specs.declared.page.BarPlace.{BarPlace}
 use Rattle.sheet_layout.specs.declared.system.Staff.{Staff}
 use Rattle.sheet_layout.specs.Spacing.{slot_x}
@@ -25,34 +20,11 @@ use Rattle.score_picture.specs.StaffRows.{is_first}
 
 -- ---- what is drawn
 
--- a rest is given
-abbrev pub is_rest : Given → Bool
-is_rest Blank = false
-is_rest Rest = true
-is_rest Tied = false
-is_rest (Hold p) = false
-is_rest (Start p) = false
-
--- how many slots of a bar, from one on, are given as rests; bars are counted from 1
-abbrev pub rests_given : Exercise → ℕ → ℕ → ℕ → ℕ
-rests_given ex voice bar slot =
-    prefix_len (λ k. is_rest (given_at ex (8 * (bar - 1) + k) voice)) (range_with_len slot (8 - slot))
-
--- of a rest on a sheet without a setting, so many slots are given; the others are left blank
-abbrev pub slots_given : Exercise → Spot → ℕ
-slots_given ex spot = min (rests_given ex spot.voice spot.bar spot.note.slot) spot.note.slots
-
--- the rest of these slots
-abbrev pub given_rest : Exercise → Spot → Written
-given_rest ex spot =
-    record spot.note { slots = slots_given ex spot; value = value_of (slots_given ex spot) }
-
--- what is drawn of a rest, among the notes of all voices in the bar: without a setting only what is
--- given of it
+-- what is drawn of a rest, among the notes of all voices in the bar: nothing where it is left blank
 abbrev pub resting : Exercise → List Written → NotePlace → Spot → List Shape
 resting ex all place spot =
-    if is_some ex.setting then rest_shapes all place spot.note
-    else (if slots_given ex spot == 0 then [] else rest_shapes all place (given_rest ex spot))
+    if is_left ex spot.voice (spot.bar - 1) spot.note.slot then []
+    else rest_shapes all place spot.note
 
 -- what is drawn of one of a bar's notes, among those of all voices
 abbrev pub drawn : Exercise → List Written → List Written → NotePlace → Spot → List Shape
@@ -78,7 +50,7 @@ colored red shapes = if red then red_rows shapes else shape_rows shapes
 unfoldable pub rule_row : ℕ → ℕ → ℕ → List ℕ
 rule_row x y rule =
     codes "<text x=\"" ++ decimal x ++ codes "\" y=\"" ++ decimal y
-    ++ codes "\" font-size=\"10\" font-weight=\"bold\" fill=\"#c00000\">S" ++ decimal rule
+    ++ codes "\" font-size=\"8\" font-weight=\"bold\" fill=\"#c00000\">S" ++ decimal rule
     ++ codes "</text>\n"
 
 -- the rows of rules, each 11 above the one before it
@@ -130,7 +102,3 @@ unfoldable pub notes_group : ℕ → List ℕ → List ℕ
 notes_group y rows =
     codes "<g transform=\"translate(0," ++ decimal y ++ codes ") translate(0,-600)\">\n" ++ rows
     ++ codes "</g>\n"
-
--- the notes of a bar on a staff, whose voice has one of these lines
-abbrev pub staff_notes : List (List Cell) → ℕ → Staff → List Written
-staff_notes lines bar staff = bar_notes (slice_index_or lines staff.voice []) bar

@@ -12,12 +12,12 @@ use Rattle.written_notes.specs.Marks.{has_voice}
 use Rattle.sheet_layout.specs.declared.page.BarPlace.{BarPlace}
 use Rattle.sheet_layout.specs.declared.system.Staff.{Staff}
 use Rattle.sheet_layout.specs.Pages.{bar_places, staves}
-use Rattle.sheet_layout.specs.Spacing.{all_notes}
+use Rattle.sheet_layout.specs.Spacing.{all_notes, voice_notes}
 use Rattle.score_xml.specs.Documents.{marks_of}
 use Rattle.score_xml.specs.Titles.{title_words}
 use Rattle.score_picture.specs.declared.symbols.TheConstants.{SYMBOLS}
 use Rattle.score_picture.specs.Names.{rule_words}
-use Rattle.score_picture.specs.NoteRows.{note_rows, notes_group, staff_notes, tie_end}
+use Rattle.score_picture.specs.NoteRows.{note_rows, notes_group, tie_end}
 use Rattle.score_picture.specs.Pieces.{joined}
 use Rattle.score_picture.specs.StaffRows.{bar_lines, staff_rows}
 
@@ -27,8 +27,8 @@ use Rattle.score_picture.specs.StaffRows.{bar_lines, staff_rows}
 abbrev pub staff_in_bar : Exercise → List SheetMark → List (List Cell) → ℕ → BarPlace → ℕ → Staff → List ℕ
 staff_in_bar ex marks lines bar place end staff =
     staff_rows ex bar place staff
-    ++ notes_group staff.y (note_rows ex marks bar place end (all_notes lines bar) staff
-    (staff_notes lines bar staff) (staff_notes lines bar staff))
+    ++ notes_group staff.y (note_rows ex marks bar place end (all_notes ex lines bar) staff
+    (voice_notes ex lines bar staff.voice) (voice_notes ex lines bar staff.voice))
 
 -- all staves in a bar
 abbrev pub staves_in_bar : Exercise → List SheetMark → List (List Cell) → ℕ → BarPlace → ℕ → List Staff → List ℕ

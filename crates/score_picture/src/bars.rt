@@ -1,6 +1,6 @@
 //! The rows of bars.
 
-ghost use Rattle.std.specs.Prelude.{◌≡◌, ◌<◌, ◌++◌, All, OnOk, string_bytes, slice_index_or, []};
+ghost use Rattle.std.specs.Prelude.{◌≡◌, ◌<◌, ◌++◌, All, OnOk, string_bytes};
 ghost use Rattle.sheet_layout.specs.Spacing.{all_notes as notes_of_all};
 ghost use Rattle.score_picture.specs.NoteRows.{tie_end as end_of_ties};
 ghost use Rattle.score_picture.specs.Pictures.{bar_at, bar_rows, bars, staff_in_bar, staves_in_bar};
@@ -9,20 +9,10 @@ use crate::notes::{BarOnPage, Marked, put_notes_group};
 use crate::staves::{is_first, put_bar_lines, put_staff_rows};
 use fux_grid::Cell;
 use fux_pitch::{List, Memory};
-use sheet_layout::{BarPlace, Staff, all_notes};
+use sheet_layout::{BarPlace, Staff, all_notes, line_at};
 use std::alloc::Global;
 use std::fmt::Write;
-use written_notes::bar_notes;
-
-/// The line of a voice.
-fn line_at(lines: &[List<Cell>], voice: u8) -> &[Cell]
-    ensures { result.now ≡ slice_index_or lines.now voice [] }
-{
-    match lines.get(voice as usize) {
-        Some(line) => line.as_slice(),
-        None => &[],
-    }
-}
+use written_notes::sheet_notes;
 
 /// Where ties from a bar to the next one end.
 fn tie_end(place: &BarPlace, next: Option<BarPlace>) -> u32
@@ -46,13 +36,13 @@ fn put_staff(
 ) -> Result<(), Memory>
     requires bar { bar.now.bar < marked.now.ex.now.bars }
     requires few { bar.now.bar < 255 }
-    requires notes { bar.now.all.now ≡ notes_of_all lines.now bar.now.bar }
+    requires notes { bar.now.all.now ≡ notes_of_all marked.now.ex.now lines.now bar.now.bar }
     requires voice { staff.now.voice < 8 }
     ensures { OnOk result (string_bytes out.new ≡ string_bytes out.old
         ++ staff_in_bar marked.now.ex.now marked.now.marks.now lines.now bar.now.bar bar.now.place
         bar.now.tie_end staff.now) }
 {
-    let notes = bar_notes(line_at(lines, staff.voice), bar.bar);
+    let notes = sheet_notes(marked.ex, staff.voice, line_at(lines, staff.voice), bar.bar);
     put_staff_rows(out, marked.ex, bar.bar, &bar.place, staff)?;
     put_notes_group(alloc, out, marked, bar, staff, &notes)?;
     Ok(())
@@ -69,7 +59,7 @@ fn put_staves(
 ) -> Result<(), Memory>
     requires bar { bar.now.bar < marked.now.ex.now.bars }
     requires few { bar.now.bar < 255 }
-    requires notes { bar.now.all.now ≡ notes_of_all lines.now bar.now.bar }
+    requires notes { bar.now.all.now ≡ notes_of_all marked.now.ex.now lines.now bar.now.bar }
     requires voices { All (λ staff. staff.voice < 8) staves.now }
     ensures { OnOk result (string_bytes out.new ≡ string_bytes out.old
         ++ staves_in_bar marked.now.ex.now marked.now.marks.now lines.now bar.now.bar
@@ -93,7 +83,7 @@ fn put_bar_rows(
 ) -> Result<(), Memory>
     requires bar { bar.now.bar < marked.now.ex.now.bars }
     requires few { bar.now.bar < 255 }
-    requires notes { bar.now.all.now ≡ notes_of_all lines.now bar.now.bar }
+    requires notes { bar.now.all.now ≡ notes_of_all marked.now.ex.now lines.now bar.now.bar }
     requires voices { All (λ staff. staff.voice < 8) staves.now }
     ensures { OnOk result (string_bytes out.new ≡ string_bytes out.old
         ++ bar_rows marked.now.ex.now marked.now.marks.now lines.now staves.now bar.now.bar
@@ -128,7 +118,7 @@ fn put_bar(
         return Ok(());
     };
     let next = places.get(bar as usize + 1).copied();
-    let all = all_notes(alloc, lines, bar)?;
+    let all = all_notes(alloc, marked.ex, lines, bar)?;
     let on_page = BarOnPage {
         bar,
         place,

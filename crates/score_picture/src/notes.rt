@@ -2,17 +2,17 @@
 
 ghost use Rattle.std.specs.Prelude.{◌≡◌, ◌-◌, ◌<◌, ◌≤◌, ◌++◌, IfOk, OnOk, string_bytes};
 ghost use Rattle.sheet_layout.specs.Spacing.{slot_x};
-ghost use Rattle.score_picture.specs.NoteRows.{colored, drawn as drawn_of, is_rest as gives_rest, note_place as place_of_notes, note_rows, notes_group, red_rows, resting, rests_given as rests_given_from, rule_row, rule_rows, shape_rows, shown, slots_given as slots_given_of, spot_of as spot_at, written_rows};
+ghost use Rattle.score_picture.specs.NoteRows.{colored, drawn as drawn_of, note_place as place_of_notes, note_rows, notes_group, red_rows, resting, rule_row, rule_rows, shape_rows, shown, spot_of as spot_at, written_rows};
 
 use crate::staves::is_first;
-use fux_grid::{Exercise, Given, given_at};
+use fux_grid::Exercise;
 use fux_pitch::Memory;
 use note_shapes::{NotePlace, Shape, put_note, put_rest};
 use shape_rows::put_shape;
 use sheet_layout::{BarPlace, Staff, slot_x};
 use std::alloc::Global;
 use std::fmt::Write;
-use written_notes::{SheetMark, Spot, Written, is_red, rules_at, value_of};
+use written_notes::{SheetMark, Spot, Written, is_left, is_red, rules_at};
 
 /// An exercise with the marks that are shown of its setting.
 #[derive(Clone, Copy)]
@@ -31,37 +31,6 @@ pub struct BarOnPage<'a> {
     pub all: &'a [Written],
 }
 
-/// Whether a rest is given.
-fn is_rest(given: Given) -> bool
-    ensures { result ≡ gives_rest given }
-{
-    matches!(given, Given::Rest)
-}
-
-/// How many slots of a bar, from one on, are given as rests. Bars are counted from 1.
-fn rests_given(ex: &Exercise, voice: u8, bar: u8, slot: u8) -> u8
-    requires first { 1 ≤ bar }
-    requires last { bar ≤ ex.now.bars }
-    ensures { result ≡ rests_given_from ex.now voice bar slot }
-{
-    let begin = 8 * (bar as usize - 1);
-    for k in slot..8 {
-        if !is_rest(given_at(ex, voice, begin + k as usize)) {
-            return k - slot;
-        }
-    }
-    8u8.saturating_sub(slot)
-}
-
-/// Of a rest on a sheet without a setting, how many slots are given.
-fn slots_given(ex: &Exercise, spot: &Spot) -> u8
-    requires first { 1 ≤ spot.now.bar }
-    requires last { spot.now.bar ≤ ex.now.bars }
-    ensures { result ≡ slots_given_of ex.now spot.now }
-{
-    rests_given(ex, spot.voice, spot.bar, spot.note.slot).min(spot.note.slots)
-}
-
 /// Appends what is drawn of a rest, among the notes of all voices in the bar.
 fn put_resting(
     shapes: &mut Vec<Shape>,
@@ -75,17 +44,10 @@ fn put_resting(
     ensures { OnOk result (shapes.new.items ≡ shapes.old.items
         ++ resting ex.now all.now place.now spot.now) }
 {
-    if ex.setting.is_some() {
-        return put_rest(shapes, all, place, &spot.note);
-    }
-    let slots = slots_given(ex, spot);
-    if slots == 0 {
+    if is_left(ex, spot.voice, spot.bar - 1, spot.note.slot) {
         return Ok(());
     }
-    let mut rest = spot.note;
-    rest.slots = slots;
-    rest.value = value_of(slots);
-    put_rest(shapes, all, place, &rest)
+    put_rest(shapes, all, place, &spot.note)
 }
 
 /// What is drawn of one of a bar's notes, among those of all voices.
@@ -149,7 +111,7 @@ fn put_rule(out: &mut String, x: u32, y: u32, rule: u8) -> Result<(), Memory>
 {
     write!(
         out,
-        "<text x=\"{x}\" y=\"{y}\" font-size=\"10\" font-weight=\"bold\" \
+        "<text x=\"{x}\" y=\"{y}\" font-size=\"8\" font-weight=\"bold\" \
         fill=\"#c00000\">S{rule}</text>\n"
     )?;
     Ok(())

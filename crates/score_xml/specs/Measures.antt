@@ -11,9 +11,9 @@ use Rattle.written_notes.specs.declared.clefs.Clef.{Clef}
 use Rattle.written_notes.specs.declared.clefs.Clef.TheVariants.{Treble, Bass, Alto}
 use Rattle.written_notes.specs.declared.marks.SheetMark.{SheetMark}
 use Rattle.written_notes.specs.declared.marks.Spot.{Spot}
-use Rattle.written_notes.specs.Bars.{bar_notes}
 use Rattle.written_notes.specs.Clefs.{clef_of}
 use Rattle.written_notes.specs.Marks.{rules_at}
+use Rattle.written_notes.specs.Sheets.{sheet_notes}
 use Rattle.score_xml.specs.NoteRows.{if_shown, note_row}
 
 -- rules, each behind a space
@@ -84,7 +84,7 @@ unfoldable pub measure : Exercise → List SheetMark → ℕ → List Cell → �
 measure ex marks voice line bar =
     codes "<measure number=\"" ++ decimal (bar + 1) ++ codes "\">\n"
     ++ first_attributes ex voice bar
-    ++ note_rows (bar_notes line bar) marks voice (bar + 1) (bar_notes line bar)
+    ++ note_rows (sheet_notes ex voice line bar) marks voice (bar + 1) (sheet_notes ex voice line bar)
     ++ if_shown (bar + 1 == ex.bars) end_line
     ++ codes "</measure>\n"
 

@@ -7,7 +7,7 @@ use crate::note_rows::{put_if, put_note};
 use fux_grid::{Cell, Exercise};
 use fux_pitch::{Memory, Mode};
 use std::fmt::Write;
-use written_notes::{Clef, SheetMark, Spot, Written, bar_notes, clef_of, rules_at};
+use written_notes::{Clef, SheetMark, Spot, Written, clef_of, rules_at, sheet_notes};
 
 /// Appends rules, each behind a space.
 fn put_further_rules(out: &mut String, rules: &[u8]) -> Result<(), Memory>
@@ -153,12 +153,13 @@ fn put_measure(
     bar: u8,
 ) -> Result<(), Memory>
     requires voice { voice < 8 }
+    requires bar { bar < ex.now.bars }
     requires few { bar < 255 }
     ensures { OnOk result (string_bytes out.new ≡ string_bytes out.old
         ++ measure ex.now marks.now voice line.now bar) }
 {
     let number = bar + 1;
-    let notes = bar_notes(line, bar);
+    let notes = sheet_notes(ex, voice, line, bar);
     write!(out, "<measure number=\"{number}\">\n")?;
     put_first_attributes(out, ex, voice, bar)?;
     put_notes(out, marks, voice, number, &notes)?;

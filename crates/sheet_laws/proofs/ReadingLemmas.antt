@@ -1,5 +1,5 @@
--- The written notes of a bar fill it and say its cells, ties join what is held, and each mark is at
--- one note.
+-- The written notes of a bar on a sheet fill it and say its cells, ties join what is held, and each
+-- mark is at one note.
 use Rattle.std.proofs.Common.{◌≡◌, ℕ, zero, suc, ◌+◌, ◌-◌, ◌*◌, ◌<◌, ◌≤◌, Bool, true, false, ◌==◌, ◌&&◌, cond, List, [], ◌∷◌, ◌++◌, IsTrue, drop, take, length, filter, replicate, refl, ap, sym, ◌∙◌, subst, add-one, append-nil, arith, nat_lt, is_some}
 use Rattle.std.specs.List.{flat_map}
 use Rattle.std.proofs.lemmas.Bool.{lt-ltb, ltb-false, ltb-true}
@@ -15,35 +15,38 @@ use Rattle.fux_grid.proofs.PitchTests.{same_pitch-from_equal}
 use Rattle.written_notes.specs.declared.bar.Written.{Written}
 use Rattle.written_notes.specs.declared.marks.SheetMark.{SheetMark}
 use Rattle.written_notes.specs.declared.runs.Run.{Run}
-use Rattle.written_notes.specs.Bars.{bar_cells, bar_notes, cells_notes, head_of, note_of, run_notes, tail_of}
+use Rattle.written_notes.specs.Bars.{bar_cells, head_of, note_of, run_notes, tail_of}
 use Rattle.written_notes.specs.Lines.{held_on as kept_on}
 use Rattle.written_notes.specs.Marks.{is_at}
-use Rattle.written_notes.specs.Runs.{cell_behind, goes_on, held_on, run_at, run_length}
+use Rattle.written_notes.specs.Runs.{cell_behind, goes_on, held_on}
+use Rattle.written_notes.specs.Sheets.{sheet_notes}
 use Rattle.sheet_laws.specs.Hearing.{FollowOn}
 use Rattle.sheet_laws.specs.Reading.{FillFrom, MarksAreAtNotes, NotesFillBars, NotesSayCells, TiesJoinNotes, TiesMeet, said_cells}
-use Rattle.sheet_laws.proofs.RunLemmas.{by_runs, held-alike}
+use Rattle.sheet_laws.proofs.RunLemmas.{HoldsOn, by_sheet, cut_at, held-alike}
 
 -- ---- notes fill the bar
 
-fill-run : (bar : List Cell) (next : Cell) (s : ℕ) (notes : List Written)
-    → FillFrom (s + run_length bar s) notes → (t : Bool) → (run_length bar s == 5) ≡ t
-    → FillFrom s (cond t (head_of (run_at bar next s) ∷ tail_of (run_at bar next s) ∷ []) (note_of (run_at bar next s) ∷ []) ++ notes)
-fill-run bar next s notes fill true e =
-    let five : run_length bar s ≡ 5 = (Decides-eqb (run_length bar s) 5).0 e in
-    let end : s + run_length bar s ≡ (s + 4) + 1 = omega (arith, five) in
+fill-run : (r : Run) (notes : List Written) → 1 ≤ r.slots → FillFrom (r.slot + r.slots) notes
+    → (t : Bool) → (r.slots == 5) ≡ t
+    → FillFrom r.slot (cond t (head_of r ∷ tail_of r ∷ []) (note_of r ∷ []) ++ notes)
+fill-run r notes some fill true e =
+    let five : r.slots ≡ 5 = (Decides-eqb r.slots 5).0 e in
+    let end : r.slot + r.slots ≡ (r.slot + 4) + 1 = omega (arith, five) in
     (refl, omega arith, (refl, omega arith, subst (λ k. FillFrom k notes) end fill))
-fill-run bar next s notes fill false e = (refl, omega arith, fill)
+fill-run r notes some fill false e = (refl, some, fill)
 
-cells-fill : (bar : List Cell) (next : Cell) → length bar ≡ 8 → FillFrom 0 (cells_notes bar next)
-cells-fill bar next size =
-    by_runs bar size next FillFrom refl
-    (λ s notes h fill. fill-run bar next s notes fill (run_length bar s == 5) refl)
+fill-on : (bar : List Cell) (next : Cell) → HoldsOn bar next FillFrom
+fill-on bar next s n notes h short fill =
+    let r : Run = cut_at bar next s n in
+    let some : 1 ≤ r.slots = omega arith in
+    fill-run r notes some fill (r.slots == 5) refl
 
 size-bar : (line : List Cell) (bar : ℕ) → length (bar_cells line bar) ≡ 8
 size-bar line bar = refl
 
 pub notes-fill : NotesFillBars
-notes-fill line bar = cells-fill (bar_cells line bar) (cell_in line (8 * bar + 8)) (size-bar line bar)
+notes-fill ex v line bar =
+    by_sheet ex v line bar FillFrom refl (fill-on (bar_cells line bar) (cell_in line (8 * bar + 8)))
 
 -- ---- each mark is at one note
 
@@ -79,8 +82,8 @@ one-at mark bar from (note ∷ notes) same fill h there =
     (λ further. one-at mark bar (from + note.slots) notes same fill.2 further there)
 
 pub marks-at : MarksAreAtNotes
-marks-at line bar mark same there =
-    one-at mark (bar + 1) 0 (bar_notes line bar) same (notes-fill line bar) (omega arith) there
+marks-at ex v line bar mark same there =
+    one-at mark (bar + 1) 0 (sheet_notes ex v line bar) same (notes-fill ex v line bar) (omega arith) there
 
 -- ---- notes say the cells
 
@@ -109,20 +112,21 @@ kept-cells first x xs n is rest =
     ap (λ t. x ∷ t) rest ∙ ap (λ c. c ∷ replicate n (kept_on c)) is
     ∙ ap (λ c. kept_on first ∷ replicate n c) (kept-kept first)
 
-held-next : (first x : Cell) (xs : List Cell) → take (held_on x xs) xs ≡ replicate (held_on x xs) (kept_on x)
-    → IsTrue (cell_follows first x) → (t : Bool) → goes_on first x ≡ t
-    → take (cond t (1 + held_on first xs) 0) (x ∷ xs) ≡ replicate (cond t (1 + held_on first xs) 0) (kept_on first)
-held-next first x xs rest f false e = refl
-held-next first x xs rest f true e =
-    let n : 1 + held_on first xs ≡ suc (held_on x xs) = omega (arith, held-alike first x e xs) in
-    ap (λ k. take k (x ∷ xs)) n ∙ kept-cells first x xs (held_on x xs) (is-kept first x f e) rest
-    ∙ ap (λ k. replicate k (kept_on first)) (sym n)
+held-next : (first x : Cell) (xs : List Cell) (n : ℕ) → (n ≤ held_on x xs → take n xs ≡ replicate n (kept_on x))
+    → IsTrue (cell_follows first x) → (t : Bool) → goes_on first x ≡ t → suc n ≤ cond t (1 + held_on first xs) 0
+    → take (suc n) (x ∷ xs) ≡ replicate (suc n) (kept_on first)
+held-next first x xs n rest f false e h = absurd (omega (arith, h))
+held-next first x xs n rest f true e h =
+    let short : n ≤ held_on x xs = omega (arith, h, held-alike first x e xs) in
+    kept-cells first x xs n (is-kept first x f e) (rest short)
 
--- what goes on with a cell, in cells that follow it, is that cell held
-held-kept : (first : Cell) (xs : List Cell) → FollowOn first xs
-    → take (held_on first xs) xs ≡ replicate (held_on first xs) (kept_on first)
-held-kept first [] f = refl
-held-kept first (x ∷ xs) f = held-next first x xs (held-kept x xs f.1) f.0 (goes_on first x) refl
+-- what goes on with a cell, in cells that follow it, is that cell held, as far as one reads
+held-kept : (first : Cell) (xs : List Cell) (n : ℕ) → n ≤ held_on first xs → FollowOn first xs
+    → take n xs ≡ replicate n (kept_on first)
+held-kept first xs zero h f = refl
+held-kept first [] (suc n) h f = absurd (omega (arith, h))
+held-kept first (x ∷ xs) (suc n) h f =
+    held-next first x xs n (λ short. held-kept x xs n short f.1) f.0 (goes_on first x) refl h
 
 -- the cells behind a slot follow on
 follow-drop : (before : Cell) (xs : List Cell) (s : ℕ) → FollowOn before xs → FollowOn (cell_in xs s) (drop (suc s) xs)
@@ -157,31 +161,22 @@ said-run r n size false e =
     append-nil (said_cells (note_of r)) ∙ said-note [] r.cell 0 n r.cell r refl size
 
 -- a run's notes and those behind it
-said-step : (bar : List Cell) (next before : Cell) (s : ℕ) (notes : List Written) → length bar ≡ 8 → FollowOn before bar
-    → s < 8 → flat_map said_cells notes ≡ drop (s + run_length bar s) bar
-    → flat_map said_cells (run_notes (run_at bar next s) ++ notes) ≡ drop s bar
-said-step bar next before s notes size f h rest =
+said-on : (bar : List Cell) (next before : Cell) → length bar ≡ 8 → FollowOn before bar
+    → HoldsOn bar next (λ from notes. flat_map said_cells notes ≡ drop from bar)
+said-on bar next before size f s n notes h short rest =
     let cell : Cell = cell_in bar s in
     let behind : List Cell = drop (s + 1) bar in
-    let n : ℕ = held_on cell behind in
-    let run : Run = run_at bar next s in
+    let run : Run = cut_at bar next s n in
     let one : run.slots ≡ suc n = omega arith in
-    let end : s + run_length bar s ≡ (s + 1) + n = omega arith in
+    let end : s + (1 + n) ≡ (s + 1) + n = omega arith in
     let follow : FollowOn cell behind =
     subst (λ k. FollowOn cell (drop k bar)) (sym (add-one s)) (follow-drop before bar s f) in
     flat_map-append said_cells (run_notes run) notes
     ∙ ap (λ t. t ++ flat_map said_cells notes) (said-run run n one (run.slots == 5) refl)
     ∙ ap (λ t. cell ∷ (replicate n (kept_on cell) ++ t)) (rest ∙ ap (λ k. drop k bar) end ∙ sym (drop-drop n (s + 1) bar))
-    ∙ ap (λ t. cell ∷ (t ++ drop n behind)) (sym (held-kept cell behind follow))
+    ∙ ap (λ t. cell ∷ (t ++ drop n behind)) (sym (held-kept cell behind n short follow))
     ∙ ap (λ t. cell ∷ t) (take-append-drop n behind)
     ∙ sym (drop_more bar s Rest (omega (arith, h, size)))
-
-cells-said : (bar : List Cell) (next before : Cell) → length bar ≡ 8 → FollowOn before bar
-    → flat_map said_cells (cells_notes bar next) ≡ bar
-cells-said bar next before size f =
-    by_runs bar size next (λ from notes. flat_map said_cells notes ≡ drop from bar)
-    (sym (drop_all 8 bar (omega (arith, size))))
-    (λ s notes h rest. said-step bar next before s notes size f h rest)
 
 -- ---- the cells of a bar follow on
 
@@ -247,10 +242,13 @@ follow-take before [] ys f = tt
 follow-take before (x ∷ xs) ys f = (f.0, follow-take x xs ys f.1)
 
 pub notes-say : NotesSayCells
-notes-say line bar f =
-    cells-said (bar_cells line bar) (cell_in line (8 * bar + 8)) (may-follow (cell_in line (8 * bar + 0))).0
-    (size-bar line bar)
-    (follow-take _ (bar_cells line bar) (cell_in line (8 * bar + 8) ∷ []) (bar-follows line bar f))
+notes-say ex v line bar f =
+    let cells : List Cell = bar_cells line bar in
+    let before : Cell = (may-follow (cell_in line (8 * bar + 0))).0 in
+    by_sheet ex v line bar (λ from notes. flat_map said_cells notes ≡ drop from cells)
+    (sym (drop_all 8 cells (omega (arith, size-bar line bar))))
+    (said-on cells (cell_in line (8 * bar + 8)) before (size-bar line bar)
+    (follow-take before cells (cell_in line (8 * bar + 8) ∷ []) (bar-follows line bar f)))
 
 -- ---- ties join what is held
 
@@ -260,17 +258,18 @@ held-most c [] = omega arith
 held-most c (x ∷ xs) = elim (goes_on c x) as (λ t. cond t (1 + held_on c xs) 0 ≤ suc (length xs))
     [ true ↦ omega (arith, held-most c xs) | false ↦ omega arith ]
 
--- behind rests nothing is held
-rest-end : (xs : List Cell) (next : Cell) → FollowOn Rest (xs ++ next ∷ [])
-    → is_hold (cell_in (xs ++ next ∷ []) (held_on Rest xs)) ≡ false
-rest-end [] Rest f = refl
-rest-end [] (Hold p) f = absurd (grind (arith, common_steps, f.0))
-rest-end [] (Start p) f = refl
-rest-end (Rest ∷ xs) next f =
-    let k : 1 + held_on Rest xs ≡ suc (held_on Rest xs) = omega arith in
-    ap (λ n. is_hold (cell_in (Rest ∷ (xs ++ next ∷ [])) n)) k ∙ rest-end xs next f.1
-rest-end (Hold p ∷ xs) next f = absurd (grind (arith, common_steps, f.0))
-rest-end (Start p ∷ xs) next f = refl
+-- behind rests nothing is held, nor in them
+rest-end : (xs : List Cell) (next : Cell) (k : ℕ) → k ≤ held_on Rest xs → FollowOn Rest (xs ++ next ∷ [])
+    → is_hold (cell_in (xs ++ next ∷ []) k) ≡ false
+rest-end [] Rest zero h f = refl
+rest-end [] (Hold p) zero h f = absurd (grind (arith, common_steps, f.0))
+rest-end [] (Start p) zero h f = refl
+rest-end [] next (suc k) h f = absurd (omega (arith, h))
+rest-end (Rest ∷ xs) next zero h f = refl
+rest-end (Rest ∷ xs) next (suc k) h f = rest-end xs next k (omega (arith, h)) f.1
+rest-end (Hold p ∷ xs) next k h f = absurd (grind (arith, common_steps, f.0))
+rest-end (Start p ∷ xs) next zero h f = refl
+rest-end (Start p ∷ xs) next (suc k) h f = absurd (omega (arith, h))
 
 module _ (bar : List Cell) (next : Cell) (size : length bar ≡ 8) where
   -- a cell of the bar, or the one behind it
@@ -291,25 +290,26 @@ module _ (bar : List Cell) (next : Cell) (size : length bar ≡ 8) where
       let there : nat_lt s 8 ≡ true = lt-ltb s 8 h in
       ap (λ t. cond t (cell_in bar s) next) there
 
-  run-end : (before : Cell) (s : ℕ) → s < 8 → FollowOn before (bar ++ next ∷ []) → cell_in bar s ≡ Rest
-      → is_hold (cell_behind bar next (s + run_length bar s)) ≡ false
-  run-end before s h f is =
+  run-end : (before : Cell) (s n : ℕ) → s < 8 → n ≤ held_on (cell_in bar s) (drop (s + 1) bar)
+      → FollowOn before (bar ++ next ∷ []) → cell_in bar s ≡ Rest
+      → is_hold (cell_behind bar next (s + (1 + n))) ≡ false
+  run-end before s n h short f is =
       let all : List Cell = bar ++ next ∷ [] in
       let rests : List Cell = drop (s + 1) bar in
-      let n : ℕ = held_on Rest rests in
-      let run : s + run_length bar s ≡ (s + 1) + n = ap (λ c. s + (1 + held_on c rests)) is ∙ omega arith in
-      let within : s + run_length bar s ≤ 8 =
-      omega (arith, run, h, size, held-most Rest rests, length-drop (s + 1) bar) in
+      let few : n ≤ held_on Rest rests = omega (arith, short, ap (λ c. held_on c rests) is) in
+      let run : s + (1 + n) ≡ (s + 1) + n = omega arith in
+      let within : s + (1 + n) ≤ 8 =
+      omega (arith, few, h, size, held-most Rest rests, length-drop (s + 1) bar) in
       let first : cell_in all s ≡ Rest = sym (behind-at s (omega (arith, h))) ∙ run-begin s h ∙ is in
       let cut : drop (suc s) all ≡ rests ++ next ∷ [] =
       ap (λ k. drop k all) (sym (add-one s)) ∙ drop-append-le (s + 1) bar (next ∷ []) (omega (arith, h, size)) in
       let follow : FollowOn Rest (rests ++ next ∷ []) =
       subst (λ (xs : List Cell). FollowOn Rest xs) cut
       (subst (λ (c : Cell). FollowOn c (drop (suc s) all)) first (follow-drop before all s f)) in
-      ap is_hold (behind-at (s + run_length bar s) within ∙ ap (cell_in all) run
+      ap is_hold (behind-at (s + (1 + n)) within ∙ ap (cell_in all) run
       ∙ sym (get_or-drop (s + 1) all n Rest)
       ∙ ap (λ xs. cell_in xs n) (drop-append-le (s + 1) bar (next ∷ []) (omega (arith, h, size))))
-      ∙ rest-end rests next follow
+      ∙ rest-end rests next n few follow
 
   -- what sounds is tied to what is held behind it
   tie-by : (c : Cell) (held : Bool) → (c ≡ Rest → held ≡ false) → (is_some (pitch_of c) && held) ≡ held
@@ -317,27 +317,26 @@ module _ (bar : List Cell) (next : Cell) (size : length bar ≡ 8) where
   tie-by (Hold p) held none = refl
   tie-by (Start p) held none = refl
 
-  tie-run : (s : ℕ) (notes : List Written) (after : Bool)
-      → (is_some (pitch_of (cell_in bar s)) && is_hold (cell_behind bar next (s + run_length bar s))) ≡ after
+  tie-run : (r : Run) (notes : List Written) (after : Bool) → (is_some (pitch_of r.cell) && is_hold r.after) ≡ after
       → TiesMeet after notes (is_hold next) → (t : Bool)
-      → TiesMeet (is_hold (cell_in bar s))
-      (cond t (head_of (run_at bar next s) ∷ tail_of (run_at bar next s) ∷ []) (note_of (run_at bar next s) ∷ []) ++ notes)
-      (is_hold next)
-  tie-run s notes after same rest true =
+      → TiesMeet (is_hold r.cell) (cond t (head_of r ∷ tail_of r ∷ []) (note_of r ∷ []) ++ notes) (is_hold next)
+  tie-run r notes after same rest true =
       (refl, (refl, subst (λ b. TiesMeet b notes (is_hold next)) (sym same) rest))
-  tie-run s notes after same rest false = (refl, subst (λ b. TiesMeet b notes (is_hold next)) (sym same) rest)
+  tie-run r notes after same rest false = (refl, subst (λ b. TiesMeet b notes (is_hold next)) (sym same) rest)
 
-  cells-tied : (before : Cell) → FollowOn before (bar ++ next ∷ [])
-      → TiesMeet (is_hold (cell_in bar 0)) (cells_notes bar next) (is_hold next)
-  cells-tied before f =
-      by_runs bar size next (λ from notes. TiesMeet (is_hold (cell_behind bar next from)) notes (is_hold next)) refl
-      (λ s notes h rest.
-      let after : Bool = is_hold (cell_behind bar next (s + run_length bar s)) in
-      subst (λ c. TiesMeet (is_hold c) (run_notes (run_at bar next s) ++ notes) (is_hold next)) (sym (run-begin s h))
-      (tie-run s notes after (tie-by (cell_in bar s) after (run-end before s h f)) rest (run_length bar s == 5)))
+  tied-on : (before : Cell) → FollowOn before (bar ++ next ∷ [])
+      → HoldsOn bar next (λ from notes. TiesMeet (is_hold (cell_behind bar next from)) notes (is_hold next))
+  tied-on before f s n notes h short rest =
+      let run : Run = cut_at bar next s n in
+      let after : Bool = is_hold (cell_behind bar next (s + (1 + n))) in
+      subst (λ c. TiesMeet (is_hold c) (run_notes run ++ notes) (is_hold next)) (sym (run-begin s h))
+      (tie-run run notes after (tie-by (cell_in bar s) after (run-end before s n h short f)) rest (run.slots == 5))
 
 pub ties-join : TiesJoinNotes
-ties-join line bar f =
+ties-join ex v line bar f =
+    let cells : List Cell = bar_cells line bar in
+    let next : Cell = cell_in line (8 * bar + 8) in
     let begin : 8 * bar + 0 ≡ 8 * bar = omega arith in
-    subst (λ k. TiesMeet (is_hold (cell_in line k)) (bar_notes line bar) (is_hold (cell_in line (8 * bar + 8)))) begin
-    (cells-tied (bar_cells line bar) (cell_in line (8 * bar + 8)) (size-bar line bar) _ (bar-follows line bar f))
+    subst (λ k. TiesMeet (is_hold (cell_in line k)) (sheet_notes ex v line bar) (is_hold next)) begin
+    (by_sheet ex v line bar (λ from notes. TiesMeet (is_hold (cell_behind cells next from)) notes (is_hold next))
+    refl (tied-on cells next (size-bar line bar) _ (bar-follows line bar f)))

@@ -1,15 +1,20 @@
--- What holds of the notes of a bar, run by run from the last one on, holds of them all (`by_runs`).
-use Rattle.std.proofs.Common.{◌≡◌, ℕ, zero, suc, ◌+◌, ◌-◌, ◌<◌, Bool, true, false, not, ◌==◌, ◌||◌, cond, List, [], ◌∷◌, ◌++◌, drop, length, refl, ap, sym, ◌∙◌, subst, add-one, arith}
-use Rattle.std.specs.List.{flat_map, range_with_len}
+-- What holds of the notes of a bar, run by run from the last one on, holds of them all (`by_runs`); so
+-- does what holds of its parts, on a sheet without a setting (`by_sheet`).
+use Rattle.std.proofs.Common.{◌≡◌, ℕ, zero, suc, ◌+◌, ◌-◌, ◌*◌, ◌<◌, ◌≤◌, Bool, true, false, not, is_some, ◌==◌, ◌||◌, cond, List, [], ◌∷◌, ◌++◌, drop, length, refl, ap, sym, ◌∙◌, subst, add-one, arith}
+use Rattle.std.specs.List.{flat_map, prefix_len, range_with_len}
 use Rattle.std.proofs.lemmas.Bool.{ne_eqb}
 use Rattle.std.proofs.lemmas.Grind.{common_steps}
 use Rattle.std.proofs.lemmas.List.{drop_all, drop_more}
 use Rattle.fux_grid.specs.declared.cell.Cell.{Cell}
 use Rattle.fux_grid.specs.declared.cell.Cell.TheVariants.{Rest, Hold, Start}
+use Rattle.fux_grid.specs.declared.exercise.Exercise.{Exercise}
 use Rattle.fux_grid.specs.Cells.{cell_in}
 use Rattle.written_notes.specs.declared.bar.Written.{Written}
-use Rattle.written_notes.specs.Bars.{notes_at, run_notes}
+use Rattle.written_notes.specs.declared.runs.Run.{Run}
+use Rattle.written_notes.specs.Bars.{bar_cells, bar_notes, notes_at, run_notes}
 use Rattle.written_notes.specs.Runs.{begins, goes_on, held_on, run_at, run_length}
+use Rattle.written_notes.specs.Sheets.{differ, given_notes, part_begins, rests_at, sheet_notes, shorter}
+use Rattle.written_notes.proofs.Steps.{range-next}
 
 -- what goes on with a cell that goes on with another goes on with that one
 goes-alike : (a b : Cell) → goes_on a b ≡ true → (c : Cell) → goes_on a c ≡ goes_on b c
@@ -40,6 +45,16 @@ not-is false h = refl
 not-off : (g : Bool) → not g ≡ false → g ≡ true
 not-off true h = refl
 not-off false h = absurd (grind (arith, common_steps, h))
+
+-- the first slot of a run, and so many more of it
+abbrev pub cut_at : List Cell → Cell → ℕ → ℕ → Run
+cut_at bar next s n = shorter bar next (run_at bar next s) (1 + n)
+
+-- something holds of notes behind a slot with those of a run before them, cut or whole
+abbrev pub HoldsOn : List Cell → Cell → (ℕ → List Written → Type 0) → Type 0
+HoldsOn bar next P =
+    (s n : ℕ) (notes : List Written) → s < 8 → n ≤ held_on (cell_in bar s) (drop (s + 1) bar)
+    → P (s + (1 + n)) notes → P s (run_notes (cut_at bar next s n) ++ notes)
 
 module _ (bar : List Cell) (size : length bar ≡ 8) where
   -- how many cells from a slot on go on with the one before it
@@ -117,3 +132,101 @@ module _ (bar : List Cell) (size : length bar ≡ 8) where
         → P s (run_notes (run_at bar next s) ++ notes))
         → P 0 (flat_map (notes_at bar next) (range_with_len 0 8))
     by_runs end step = from-slot end step 8 0 refl
+
+  -- parts, each of which begins where a run does or within one
+  module _ (starts : ℕ → Bool) (covers : (s : ℕ) → begins bar s ≡ true → starts s ≡ true) where
+    -- how many slots there are from one on where no part begins
+    abbrev left_on : ℕ → ℕ
+    left_on s = prefix_len (λ k. not (starts k)) (range_with_len s (8 - s))
+
+    none-left : (s : ℕ) → s < 8 → starts s ≡ true → left_on s ≡ 0
+    none-left s h b =
+        ap (prefix_len (λ k. not (starts k))) (range-next s 8 h)
+        ∙ ap (λ t. cond (not t) (1 + left_on (s + 1)) 0) b
+
+    one-left : (s : ℕ) → s < 8 → starts s ≡ false → left_on s ≡ 1 + left_on (s + 1)
+    one-left s h b =
+        ap (prefix_len (λ k. not (starts k))) (range-next s 8 h)
+        ∙ ap (λ t. cond (not t) (1 + left_on (s + 1)) 0) b
+
+    -- where no part begins, no run does
+    no-run : (s : ℕ) → starts s ≡ false → (t : Bool) → begins bar s ≡ t → begins bar s ≡ false
+    no-run s none true b =
+        let some : starts s ≡ true = covers s b in
+        absurd (grind (arith, common_steps, none, some))
+    no-run s none false b = b
+
+    -- parts are no longer than runs
+    part-by : (s : ℕ) → s < 8 → left_on (s + 1) ≤ going_on (s + 1) → (t : Bool) → starts s ≡ t
+        → left_on s ≤ going_on s
+    part-by s h so_far true b = omega (arith, none-left s h b)
+    part-by s h so_far false b =
+        omega (arith, one-left s h b, one-goes s h (no-run s b (begins bar s) refl), so_far)
+
+    part-within : (n s : ℕ) → s + n ≡ 8 → left_on s ≤ going_on s
+    part-within zero s e =
+        let all : s ≡ 8 = omega (arith, e) in
+        let none : left_on s ≡ 0 = ap left_on all in
+        omega (arith, none)
+    part-within (suc n) s e =
+        part-by s (omega (arith, e)) (part-within n (s + 1) (omega (arith, e))) (starts s) refl
+
+    module _ (next : Cell) (P : ℕ → List Written → Type 0) where
+      at-part : (s : ℕ) (notes : List Written) → s < 8
+          → (P (s + (1 + left_on (s + 1))) notes → P s (run_notes (cut_at bar next s (left_on (s + 1))) ++ notes))
+          → P ((s + 1) + left_on (s + 1)) notes
+          → (t : Bool) → starts s ≡ t
+          → P (s + left_on s) (cond t (run_notes (cut_at bar next s (left_on (s + 1)))) [] ++ notes)
+      at-part s notes h step so_far true b =
+          let here : s + left_on s ≡ s = omega (arith, none-left s h b) in
+          let part : (s + 1) + left_on (s + 1) ≡ s + (1 + left_on (s + 1)) = omega arith in
+          subst (λ k. P k (run_notes (cut_at bar next s (left_on (s + 1))) ++ notes)) (sym here)
+          (step (subst (λ k. P k notes) part so_far))
+      at-part s notes h step so_far false b =
+          let same : (s + 1) + left_on (s + 1) ≡ s + left_on s = omega (arith, one-left s h b) in
+          subst (λ k. P k notes) same so_far
+
+      from-part : P 8 [] → HoldsOn bar next P → (n s : ℕ) → s + n ≡ 8
+          → P (s + left_on s)
+          (flat_map (λ k. cond (starts k) (run_notes (cut_at bar next k (left_on (k + 1)))) []) (range_with_len s n))
+      from-part end step zero s e =
+          let all : s ≡ 8 = omega (arith, e) in
+          let at : s + left_on s ≡ 8 = ap (λ k. k + left_on k) all in
+          subst (λ k. P k []) (sym at) end
+      from-part end step (suc n) s e =
+          let h : s < 8 = omega (arith, e) in
+          let rest : List Written =
+          flat_map (λ k. cond (starts k) (run_notes (cut_at bar next k (left_on (k + 1)))) []) (range_with_len (s + 1) n) in
+          let short : left_on (s + 1) ≤ held_on (cell_in bar s) (drop (s + 1) bar) =
+          omega (arith, part-within n (s + 1) (omega (arith, e)), going-behind s) in
+          at-part s rest h (step s (left_on (s + 1)) rest h short)
+          (from-part end step n (s + 1) (omega (arith, e))) (starts s) refl
+
+      -- what holds of no notes at the bar's end, and of each part's notes before others, holds of all
+      by_parts : P 8 [] → HoldsOn bar next P
+          → P 0 (flat_map (λ k. cond (starts k) (run_notes (cut_at bar next k (left_on (k + 1)))) []) (range_with_len 0 8))
+      by_parts end step =
+          let none : 0 + left_on 0 ≡ 0 = omega (arith, none-left 0 (omega arith) (covers 0 refl)) in
+          subst
+          (λ k. P k (flat_map (λ j. cond (starts j) (run_notes (cut_at bar next j (left_on (j + 1)))) []) (range_with_len 0 8)))
+          none (from-part end step 8 0 refl)
+
+-- a run that begins begins a part too
+run-begins : (a b : Bool) → a ≡ true → (a || b) ≡ true
+run-begins true b e = refl
+run-begins false b e = absurd (grind (arith, common_steps, e))
+
+-- the same of the notes of a bar on a sheet
+pub by_sheet : (ex : Exercise) (v : ℕ) (line : List Cell) (bar : ℕ) (P : ℕ → List Written → Type 0)
+    → P 8 [] → HoldsOn (bar_cells line bar) (cell_in line (8 * bar + 8)) P → P 0 (sheet_notes ex v line bar)
+by_sheet ex v line bar P end step =
+    let cells : List Cell = bar_cells line bar in
+    let next : Cell = cell_in line (8 * bar + 8) in
+    let size : length cells ≡ 8 = refl in
+    elim (is_some ex.setting) as (λ b. P 0 (cond b (bar_notes line bar) (given_notes ex v line bar))) [
+      | true ↦ by_runs cells size next P end (λ s notes h so_far.
+          step s (held_on (cell_in cells s) (drop (s + 1) cells)) notes h (omega arith) so_far)
+      | false ↦ by_parts cells size (part_begins ex v bar cells)
+          (λ s b. run-begins (begins cells s) (differ (rests_at ex v bar (s - 1)) (rests_at ex v bar s)) b)
+          next P end step
+    ]

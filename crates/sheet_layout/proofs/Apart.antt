@@ -11,7 +11,7 @@ use Rattle.sheet_layout.specs.Spacing.{SlotsStandApart, all_notes, begins, has_s
 use Rattle.sheet_layout.specs.Pages.{BarsFitThePage, bar_room, next_place, place_of}
 
 -- more slots have no less room
-rooms-grow : (all : List Written) (a b : ℕ) → a ≤ b → room_of all a ≤ room_of all b
+pub rooms-grow : (all : List Written) (a b : ℕ) → a ≤ b → room_of all a ≤ room_of all b
 rooms-grow all a zero h = let e : a ≡ 0 = omega (arith, h) in rw e (omega arith)
 rooms-grow all a (suc b) h =
     elim (le-suc_iff.0 h) [
@@ -42,7 +42,7 @@ least-few false = omega arith
 
 bar-few : (ex : Exercise) (lines : List (List Cell)) (bar : ℕ) → (bar_room ex lines bar).width ≤ 282
 bar-few ex lines bar =
-    omega (arith, rooms-few (all_notes lines bar) 8, least-few (is_some ex.setting))
+    omega (arith, rooms-few (all_notes ex lines bar) 8, least-few (is_some ex.setting))
 
 -- a bar fits the page behind one that does
 next-fits : (tall : ℕ) (before : BarPlace) (room : BarRoom) → room.width ≤ 282 → (b : Bool)

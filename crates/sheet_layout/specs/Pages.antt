@@ -27,8 +27,8 @@ least_width ex = if is_some ex.setting then 0 else 150
 -- what a bar needs, counted from 0
 abbrev pub bar_room : Exercise → List (List Cell) → ℕ → BarRoom
 bar_room ex lines bar = record {
-  width = max (bar_width (all_notes lines bar)) (least_width ex);
-  first = slot_x (all_notes lines bar) 0;
+  width = max (bar_width (all_notes ex lines bar)) (least_width ex);
+  first = slot_x (all_notes ex lines bar) 0;
 }
 
 -- a bar stands behind another one where it fits the page; else it begins the next system, 20 below

@@ -1,15 +1,20 @@
 -- Where the slots of a bar stand.
-use Rattle.std.specs.Prelude.{ℕ, zero, suc, ◌+◌, ◌==◌, ◌<◌, ◌≤◌, ◌&&◌, Bool, true, false, IsTrue, List, if◌then◌else◌}
-use Rattle.std.specs.List.{flat_map, list_any}
+use Rattle.std.specs.Prelude.{ℕ, zero, suc, ◌+◌, ◌==◌, ◌<◌, ◌≤◌, ◌&&◌, Bool, true, false, IsTrue, List, [], slice_index_or, if◌then◌else◌}
+use Rattle.std.specs.List.{flat_map, list_any, range_with_len}
 use Rattle.fux_grid.specs.declared.cell.Cell.{Cell}
+use Rattle.fux_grid.specs.declared.exercise.Exercise.{Exercise}
 use Rattle.written_notes.specs.declared.bar.Written.{Written}
 use Rattle.written_notes.specs.declared.signs.Sign.{Sign}
 use Rattle.written_notes.specs.declared.signs.Sign.TheVariants.{Plain, Sharp, Flat, Natural}
-use Rattle.written_notes.specs.Bars.{bar_notes}
+use Rattle.written_notes.specs.Sheets.{sheet_notes}
+
+-- the written notes of a voice of an exercise with these lines in a bar
+abbrev pub voice_notes : Exercise → List (List Cell) → ℕ → ℕ → List Written
+voice_notes ex lines bar v = sheet_notes ex v (slice_index_or lines v []) bar
 
 -- the written notes of all voices in a bar, the lowest voice first
-abbrev pub all_notes : List (List Cell) → ℕ → List Written
-all_notes lines bar = flat_map (λ line. bar_notes line bar) lines
+abbrev pub all_notes : Exercise → List (List Cell) → ℕ → List Written
+all_notes ex lines bar = flat_map (voice_notes ex lines bar) (range_with_len 0 ex.voices)
 
 -- a sign is written
 abbrev pub is_shown : Sign → Bool

@@ -8,5 +8,5 @@ mod system;
 
 pub use laws::nothing_touches;
 pub use page::{BarPlace, BarRoom, LEFT, bar_places};
-pub use spacing::{all_notes, bar_width, slot_x};
+pub use spacing::{all_notes, bar_width, line_at, slot_x};
 pub use system::{Staff, staves};

@@ -1,6 +1,6 @@
 //! Where bars stand on the page.
 
-ghost use Rattle.std.specs.Prelude.{◌≡◌, ◌+◌, ◌^◌, ◌≤◌, IfOk};
+ghost use Rattle.std.specs.Prelude.{◌≡◌, ◌+◌, ◌^◌, ◌<◌, ◌≤◌, IfOk};
 ghost use Rattle.sheet_layout.specs.Pages.{bar_places as places_of, bar_room as room_of_bar, least_width, next_place};
 
 use crate::spacing::{all_notes, bar_width, slot_x};
@@ -38,10 +38,11 @@ fn least_width(ex: &Exercise) -> u16
 
 /// What a bar needs.
 fn bar_room(alloc: Global, ex: &Exercise, lines: &[List<Cell>], bar: u8) -> Result<BarRoom, Memory>
+    requires { bar < ex.now.bars }
     ensures value { IfOk result (λ room. room ≡ room_of_bar ex.now lines.now bar) }
     ensures most { IfOk result (λ room. room.width ≤ 282) }
 {
-    let all = all_notes(alloc, lines, bar)?;
+    let all = all_notes(alloc, ex, lines, bar)?;
     Ok(BarRoom {
         width: bar_width(&all).max(least_width(ex)),
         first: slot_x(&all, 0),

@@ -1,32 +1,52 @@
 //! Where the slots of a bar stand.
 
-ghost use Rattle.std.specs.Prelude.{◌≡◌, ◌*◌, ◌++◌, ◌≤◌, IfOk, OnOk};
-ghost use Rattle.written_notes.specs.Bars.{bar_notes};
-ghost use Rattle.sheet_layout.specs.Spacing.{all_notes as notes_of_all, bar_width as width_of, begins as begins_at, has_sign as signed_at, is_shown, lead as lead_of, room as room_at, room_of, slot_x as x_of};
+ghost use Rattle.std.specs.Prelude.{◌≡◌, ◌*◌, ◌++◌, ◌<◌, ◌≤◌, IfOk, OnOk, slice_index_or, []};
+ghost use Rattle.sheet_layout.specs.Spacing.{all_notes as notes_of_all, bar_width as width_of, begins as begins_at, has_sign as signed_at, is_shown, lead as lead_of, room as room_at, room_of, slot_x as x_of, voice_notes};
 
-use fux_grid::Cell;
+use fux_grid::{Cell, Exercise};
 use fux_pitch::{List, Memory};
 use std::alloc::Global;
-use written_notes::{Sign, Written, bar_notes};
+use written_notes::{Sign, Written, sheet_notes};
+
+/// The line of a voice.
+pub fn line_at(lines: &[List<Cell>], v: u8) -> &[Cell]
+    ensures { result.now ≡ slice_index_or lines.now v [] }
+{
+    match lines.get(v as usize) {
+        Some(line) => line.as_slice(),
+        None => &[],
+    }
+}
 
 /// Appends the written notes of a bar of a voice.
-fn put_notes(all: &mut Vec<Written>, line: &[Cell], bar: u8) -> Result<(), Memory>
-    ensures { OnOk result (all.new.items ≡ all.old.items ++ bar_notes line.now bar) }
+fn put_notes(
+    all: &mut Vec<Written>,
+    ex: &Exercise,
+    lines: &[List<Cell>],
+    bar: u8,
+    v: u8,
+) -> Result<(), Memory>
+    requires { bar < ex.now.bars }
+    ensures { OnOk result (all.new.items ≡ all.old.items ++ voice_notes ex.now lines.now bar v) }
 {
-    let notes = bar_notes(line, bar);
-    for note in notes.as_slice() {
-        all.push(*note)?;
-    }
+    let notes = sheet_notes(ex, v, line_at(lines, v), bar);
+    all.extend_from_slice(notes.as_slice())?;
     Ok(())
 }
 
 /// The written notes of all voices in a bar, the lowest voice first.
-pub fn all_notes(alloc: Global, lines: &[List<Cell>], bar: u8) -> Result<Vec<Written>, Memory>
-    ensures { IfOk result (λ all. all.items ≡ notes_of_all lines.now bar) }
+pub fn all_notes(
+    alloc: Global,
+    ex: &Exercise,
+    lines: &[List<Cell>],
+    bar: u8,
+) -> Result<Vec<Written>, Memory>
+    requires { bar < ex.now.bars }
+    ensures { IfOk result (λ all. all.items ≡ notes_of_all ex.now lines.now bar) }
 {
     let mut all = Vec::new(alloc);
-    for line in lines {
-        put_notes(&mut all, line.as_slice(), bar)?;
+    for v in 0..ex.voices {
+        put_notes(&mut all, ex, lines, bar, v)?;
     }
     Ok(all)
 }

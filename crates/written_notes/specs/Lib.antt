@@ -4,5 +4,6 @@ pub mod Clefs
 pub mod Lines
 pub mod Marks
 pub mod Runs
+pub mod Sheets
 pub mod Signs
 pub mod Values

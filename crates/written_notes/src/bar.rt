@@ -75,7 +75,7 @@ fn tail_of(run: &Run) -> Written
 }
 
 /// Appends the written notes of a run.
-fn put_run(notes: &mut ArrayVec<Written, 16>, run: &Run)
+pub fn put_run(notes: &mut ArrayVec<Written, 16>, run: &Run)
     requires room { array_vec_len notes.old ≤ 14 }
     requires place { run.now.slot ≤ 8 }
     ensures items { notes.new.items ≡ notes.old.items ++ run_notes run.now }
@@ -115,7 +115,7 @@ fn notes_of(cells: &[Cell], next: Cell) -> ArrayVec<Written, 16>
 }
 
 /// The cells of a bar, counted from 0, rests beyond the line's end.
-fn bar_cells(line: &[Cell], bar: u8) -> [Cell; 8]
+pub fn bar_cells(line: &[Cell], bar: u8) -> [Cell; 8]
     ensures value { result ≡ bar_cells line.now bar }
     ensures whole { length result ≡ 8 }
 {

@@ -7,6 +7,7 @@ mod clefs;
 mod line;
 mod marks;
 mod runs;
+mod sheet;
 mod signs;
 mod values;
 
@@ -15,5 +16,6 @@ pub use beams::{Beam, beam_of};
 pub use clefs::{Clef, clef_of, middle_degree};
 pub use line::voice_line;
 pub use marks::{SheetMark, Spot, has_voice, is_red, rules_at};
+pub use sheet::{is_left, sheet_notes};
 pub use signs::Sign;
 pub use values::{Base, NoteValue, value_of};
