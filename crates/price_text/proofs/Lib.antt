@@ -1,0 +1,4 @@
+pub mod WordLaws
+pub mod WrittenLines
+pub mod ReadLines
+pub mod KeySteps

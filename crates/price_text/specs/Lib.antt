@@ -1,0 +1,3 @@
+pub mod PriceLines
+pub mod Reading
+pub mod Laws

@@ -1,0 +1,11 @@
+//! Laws of the text of lists.
+
+ghost use Rattle.price_text.specs.Laws.{LinesAreRead, ReadLinesFit};
+
+/// A law, and nothing to run: of each line that may stand there what is written is read as the line
+/// and nothing more; and what is read is the text of such a line. So a line has one text, and a text
+/// is one line.
+pub fn lines_are_read()
+    ensures written { LinesAreRead }
+    ensures read { ReadLinesFit }
+{}
