@@ -6,6 +6,7 @@ use Rattle.fux_text.specs.declared.fault.TextKind.{TextKind}
 use Rattle.fux_text.specs.declared.fault.TextKind.TheVariants as kinds
 use Rattle.fux_text.specs.Head.{mode_row, number_row, species_row}
 use Rattle.fux_text.specs.Limits.{most_voices, newest_version}
+use Rattle.fux_text.specs.Relaxing.{relax_of}
 use Rattle.text_lines.specs.Faults.{Fault, ◌>>=◌}
 use Rattle.text_lines.specs.Reading.{done, fault_at, fault_past, next, none_left, same_text}
 use Rattle.text_lines.specs.Rows.{Row, Run, row_in, run_in, told_at, told_beyond}
@@ -13,9 +14,9 @@ use Rattle.text_lines.specs.Words.{LineWords, PlacedWord, first_of}
 use Rattle.text_faults.specs.declared.known.Known.{Known}
 use Rattle.text_faults.specs.Below.{judged, judged_from, named_judged}
 use Rattle.text_faults.specs.Given.{given_behind, given_judged, lone_given}
-use Rattle.text_faults.specs.HeadLines.{Judged, bars_judged, cantus_behind, cantus_judged, lone_cantus, mode_judged, species_judged, version_judged, voices_judged}
+use Rattle.text_faults.specs.HeadLines.{bars_judged, cantus_behind, cantus_judged, lone_cantus, mode_judged, species_judged, version_judged, voices_judged}
 use Rattle.text_faults.specs.Range.{bars_of, has_bars, lone_range, range_judged}
-use Rattle.text_faults.specs.Relax.{lone_relax, relax_judged}
+use Rattle.text_faults.specs.Relax.{relax_judged}
 use Rattle.text_faults.specs.Sing.{lone_sing, sing_behind, sing_judged}
 
 -- words of this line
@@ -119,7 +120,7 @@ module _ (known : Known) (at : LineWords) (n : ℕ) (o : IsOfLine n at) where
 
   relax_line : FaultIn n (relax_judged known at)
   unfolding relax_judged
-  relax_line = known_line (lone_relax known.voices (bars_of known.bars)) at n (λ line. known) o
+  relax_line = known_line (relax_of known.voices (bars_of known.bars)) at n (λ line. known) o
 
   given_line : FaultIn n (given_judged known at)
   unfolding given_judged

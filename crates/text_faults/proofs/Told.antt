@@ -1,6 +1,6 @@
 -- What is told of lines, one after the other, is the faults of those behind a line: all of them and
 -- no others, in order, and no line has two.
-use Rattle.std.proofs.Common.{◌≡◌, ℕ, zero, suc, ◌+◌, ◌<◌, ◌≤◌, Bool, true, false, List, [], ◌∷◌, ◌++◌, Contains, Result, Ok, Err, inl, inr, refl, sym, arith}
+use Rattle.std.proofs.Common.{◌≡◌, ℕ, zero, suc, ◌+◌, ◌<◌, ◌≤◌, Bool, true, false, List, [], ◌∷◌, ◌++◌, Contains, Ok, Err, inl, inr, refl, sym, arith}
 use Rattle.std.specs.Prelude.{length, nat_lt, if◌then◌else◌}
 use Rattle.std.specs.List.{slice_split}
 use Rattle.std.specs.Str.{is_utf8}
@@ -12,7 +12,7 @@ use Rattle.fux_text.specs.declared.fault.TextKind.TheVariants as kinds
 use Rattle.text_lines.specs.Faults.{Fault}
 use Rattle.text_lines.specs.Lines.{is_skipped, line_words, lines_from, lines_in, numbered}
 use Rattle.text_lines.specs.Utf8.{fault_of_utf8, text_in}
-use Rattle.text_lines.specs.Words.{LineWords, is_blank, placed, with_piece, words_from}
+use Rattle.text_lines.specs.Words.{LineWords, is_blank, placed, words_from}
 use Rattle.text_faults.specs.declared.found.FoundFault.{FoundFault}
 use Rattle.text_faults.specs.declared.known.Known.{Known}
 use Rattle.text_faults.specs.Below.{AreBelow, AreFrom, IsFaultOfOne, StandBehind, found, judged, known_after, known_behind, lines_judged, lines_read, told_below, told_of}

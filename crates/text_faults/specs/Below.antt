@@ -77,7 +77,8 @@ StandBehind number (f ∷ faults) = (number < f.line) × StandBehind f.line faul
 -- these are the faults of lines, of those behind the line of a number: all of them and no others,
 -- in order, and no line has two
 pub record AreBelow (number : ℕ) (lines : List LineWords) (faults : List FoundFault) : Type 0 where
-  pub each : (f : FoundFault) → Contains faults f ↔ (IsFaultOfOne nothing_known lines f × (number < f.line))
+  pub each : (f : FoundFault)
+      → Contains faults f ↔ (IsFaultOfOne nothing_known lines f × (number < f.line))
   pub order : StandBehind number faults
 
 -- the lines of bytes that are a text

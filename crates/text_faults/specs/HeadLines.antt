@@ -32,18 +32,20 @@ bars_judged known at =
 
 unfoldable pub species_judged : Known → LineWords → Judged
 species_judged known at =
-    row_in (species_row known.voices) at >>= λ species. Ok (record known { species_voice = Some species.1 })
+    row_in (species_row known.voices) at
+    >>= λ species. Ok (record known { species_voice = Some species.1 })
 
 -- `cantus C PITCHES`, where there are so many bars
 abbrev pub lone_cantus : Known → ℕ → Row TextKind (ℕ × List Pitch)
 lone_cantus known bars =
-    Row.place (named_place kinds.Cantus kinds.Cantus (voice_but known.species_voice known.voices)) (λ v.
-    pitches_row v bars [])
+    Row.place (named_place kinds.Cantus kinds.Cantus (voice_but known.species_voice known.voices))
+    (λ v. pitches_row v bars [])
 
 abbrev pub cantus_behind : Known → Option ℕ → LineWords → Judged
 cantus_behind known None at = Ok known
 cantus_behind known (Some bars) at =
-    row_in (lone_cantus known bars) at >>= λ cantus. Ok (record known { cantus_voice = Some cantus.0 })
+    row_in (lone_cantus known bars) at
+    >>= λ cantus. Ok (record known { cantus_voice = Some cantus.0 })
 
 -- a cantus is judged where the number of bars is known
 unfoldable pub cantus_judged : Known → LineWords → Judged

@@ -8,7 +8,12 @@ use Rattle.text_faults.specs.declared.known.Known.{Known}
 
 -- above the first line
 abbrev pub nothing_known : Known
-nothing_known = record { voices = most_voices; bars = None; species_voice = None; cantus_voice = None }
+nothing_known = record {
+  voices = most_voices;
+  bars = None;
+  species_voice = None;
+  cantus_voice = None;
+}
 
 -- a number of bars is no 0, and there are at most four voices
 pub record IsPossible (known : Known) : Type 0 where

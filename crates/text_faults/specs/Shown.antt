@@ -21,9 +21,9 @@ is_comma b = b == 44
 abbrev pub name_in : List ℕ → List ℕ
 name_in word = before_first is_colon word
 
--- a word in a form, where this stands from it on: nothing; in small letters; its name alone, or with
--- the length of a whole bar or a half; what stands before its comma; with the word behind it; and
--- with blanks at both sides of its bar line
+-- a word in a form, where this stands from it on: nothing; in small letters; its name alone, or
+-- with the length of a whole bar or a half; what stands before its comma; with the word behind it;
+-- and with blanks at both sides of its bar line
 abbrev pub shown_as : Form → List ℕ → List ℕ → List ℕ
 shown_as form.Nothing here word = []
 shown_as form.Small here word = map to_ascii_lowercase word

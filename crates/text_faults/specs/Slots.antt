@@ -1,6 +1,6 @@
 -- How many bars and slots stand before a place of a `sing` or `given` line, and what is told of
 -- them.
-use Rattle.std.specs.Prelude.{ℕ, ◌+◌, ◌-◌, ◌==◌, true, false, List, [], ◌∷◌, ◌++◌, Option, Some, None, codes, nat_lt, if◌then◌else◌}
+use Rattle.std.specs.Prelude.{ℕ, ◌+◌, ◌-◌, ◌==◌, false, List, [], ◌∷◌, ◌++◌, Option, Some, None, codes, nat_lt, if◌then◌else◌}
 use Rattle.std.specs.Fmt.{decimal}
 use Rattle.text_faults.specs.declared.slots.Count.{Count}
 
@@ -28,7 +28,8 @@ with_length at count digit =
 -- a byte at a place, counted from 0: a bar line, a length behind a colon, or what has none
 abbrev pub counted_byte : ℕ → Count → ℕ → Count
 counted_byte at count b =
-    if b == 124 then record { bars = and_more count.bars 1; slots = 0; is_length = false; full = None }
+    if b == 124
+    then record { bars = and_more count.bars 1; slots = 0; is_length = false; full = None }
     else if count.is_length then with_length at count (b - 48)
     else record count { is_length = b == 58 }
 
@@ -62,7 +63,8 @@ bar_told count = slots_told count ++ amiss count
 
 -- of the bar of a `given` line, which its line numbers
 unfoldable pub given_told : Count → List ℕ
-given_told count = codes "a given line has a whole bar of 8 slots, and this one " ++ decimal count.slots
+given_told count =
+    codes "a given line has a whole bar of 8 slots, and this one " ++ decimal count.slots
 
 -- of a line that ends too soon, and of one that goes on too long
 unfoldable pub end_told : Count → List ℕ

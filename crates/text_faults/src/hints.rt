@@ -333,7 +333,8 @@ fn put_hint_of(
     at: Place<'_>,
 ) -> Result<(), Memory>
     ensures { OnOk result (out.new.items ≡ out.old.items
-        ++ hint_of kind number at.entry.line.now at.entry.before.now at.entry.here.now at.entry.word.now) }
+        ++ hint_of kind number at.entry.line.now at.entry.before.now at.entry.here.now
+        at.entry.word.now) }
 {
     let Place {
         line,

@@ -1,18 +1,15 @@
 //! A range line, judged by itself.
 
-ghost use Rattle.std.specs.Prelude.{◌≡◌, IfOk, true};
+ghost use Rattle.std.specs.Prelude.{◌≡◌, IfOk};
 ghost use Rattle.text_lines.specs.Faults.{Gives};
 ghost use Rattle.text_lines.specs.Rows.{place_in, row_in};
 ghost use Rattle.text_lines.specs.Words.{words_of};
-ghost use Rattle.fux_text.specs.Ranges.{bars_row, high_place};
 ghost use Rattle.text_faults.specs.Known.{IsPossible};
 ghost use Rattle.text_faults.specs.Range.{bars_of, free_place, has_bars, lone_range, range_behind, range_judged};
 
-use crate::head_lines::pitch_in;
 use crate::known::{Known, voice_but};
 use fux_grid::RangeLine;
-use fux_pitch::{Pitch, semitone};
-use fux_text::{TextFault, TextKind, parse_pitch};
+use fux_text::{TextFault, TextKind, bars_in, high_in, pitch_in};
 use text_lines::Words;
 
 /// Whether more than three words are left.
@@ -30,47 +27,6 @@ fn has_bars(words: Words<'_>) -> bool
         return false;
     };
     words.first().is_some()
-}
-
-/// Reads HIGH, whose key isn't below that of LOW.
-fn high_in(words: Words<'_>, low: Pitch) -> Result<(Pitch, Words<'_>), TextFault>
-    ensures { Gives (λ x. (x.0, words_of x.1)) result
-        (place_in (high_place low) (words_of words.entry)) }
-{
-    let (word, words) = words.next(TextKind::Range)?;
-    let Some(high) = parse_pitch(word.text) else {
-        return Err(word.fault(TextKind::Pitch));
-    };
-    if semitone(high) < semitone(low) {
-        return Err(word.fault(TextKind::Range));
-    }
-    Ok((high, words))
-}
-
-/// Reads the bars of a line that has some, with which it ends.
-#[tactic(auto, unfolding(text_lines::specs::Rows::row_in, text_lines::specs::Reading::number_in))]
-fn later_bars_in(words: Words<'_>, bars: u8, line: RangeLine) -> Result<RangeLine, TextFault>
-    ensures { Gives (λ x. x) result (row_in (bars_row true bars line) (words_of words.entry)) }
-{
-    let (from, words) = words.small_number(TextKind::Range, 1, bars)?;
-    let (to, words) = words.small_number(TextKind::Range, from, bars)?;
-    words.done(TextKind::Word)?;
-    Ok(RangeLine {
-        bars: Some((from, to)),
-        ..line
-    })
-}
-
-/// Reads the bars of a line, where it has some.
-#[tactic(auto, unfolding(text_lines::specs::Rows::row_in))]
-fn bars_in(words: Words<'_>, later: bool, bars: u8, line: RangeLine) -> Result<RangeLine, TextFault>
-    ensures { Gives (λ x. x) result (row_in (bars_row later bars line) (words_of words.entry)) }
-{
-    if later {
-        return later_bars_in(words, bars, line);
-    }
-    words.done(TextKind::Word)?;
-    Ok(line)
 }
 
 /// Reads any voice but that of the cantus.
