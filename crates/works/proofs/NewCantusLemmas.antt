@@ -52,7 +52,7 @@ sought_read plan (Some before) budget bytes told = found_read bytes told
 
 pub new_cantus_is_read : NewCantusIsRead
 new_cantus_is_read wanted search sheets written (inl over) favorable =
-    let plan = plan_of wanted over.sheet in
+    let plan = plan_of wanted over.sheet (prices_in_use sheets) in
     sought_read plan search.before search.budget written.bytes
     (subst (λ (v : Verdict). TellsCantus plan search v written.bytes) favorable over.made)
 new_cantus_is_read wanted search sheets written (inr none) favorable = absurd (no_refusal written none.refusal none.is)

@@ -83,8 +83,8 @@ fn check<F: Shelf>(
 ) -> Result<Output, Unmade>
     requires { IsWanted wanted.now }
     ensures checks { AnswersWithin (ChecksPlan (plan_of wanted.now priced.now.sheet
-        priced.now.prices) (F.files shelf.old) certificate.now) (IsUnreadable F.files F.faults certificate.now shelf.old shelf.new)
-        result }
+        priced.now.prices) (F.files shelf.old) certificate.now)
+        (IsUnreadable F.files F.faults certificate.now shelf.old shelf.new) result }
     ensures served { ServesWhole (F.serves shelf.old) certificate.now 1073741824
         → IfErr result IsReadWithin }
     ensures files { F.files shelf.new ≡ F.files shelf.old }

@@ -64,12 +64,12 @@ fn of_weights(
 fn invent(
     alloc: Global,
     wanted: &Wanted,
-    priced: &PricedSheet, search: Search
-    budget: u32,
+    priced: &PricedSheet,
+    search: Search,
 ) -> Result<Output, Memory>
     requires { IsWanted wanted.now }
-    ensures { IfOk result (λ output. TellsCantus (plan_of wanted.now priced.now) search.sheet
-        priced.now.prices) budget output.verdict output.bytes) }
+    ensures { IfOk result (λ output. TellsCantus (plan_of wanted.now priced.now.sheet
+        priced.now.prices) search output.verdict output.bytes) }
 {
     let space = space_of(wanted, priced);
     Ok(told(alloc, &space, search)?)

@@ -4,6 +4,6 @@ use Rattle.works.proofs.inventing.invent.Goals as goal
 
 pub returns : goal.returns
 returns c =
-    tells_cantus c.space_of-space.result (plan_of c.args.wanted.now c.args.sheet.now) c.args.search _ _ c.new-space.ensures
-    c.in_ok-toldbest_text-in-Found.ensures in
-    rw c.of_text.ensures (subst (λ plan. TellsFound (IsBestWithin plan budget) cantus_answer text) c.space_of-space.ensures
+    let priced = c.args.priced.now in
+    tells_cantus c.space_of.result (plan_of c.args.wanted.now priced.sheet priced.prices) c.args.search _ _ c.space_of.ensures
+    c.in_ok-told.ensures

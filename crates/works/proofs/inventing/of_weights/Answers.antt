@@ -12,6 +12,6 @@ returns c = λ sheets weights.
       sheet = priced.sheet;
       said = read.0;
       made =
-          subst (λ (prices : CantusPrices). Invents wanted c.args.budget prices priced.sheet _) (sym read.1)
+          subst (λ (prices : CantusPrices). Invents wanted c.args.search prices priced.sheet _) (sym read.1)
           c.in_ok-invent.ensures;
     }
