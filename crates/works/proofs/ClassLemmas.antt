@@ -61,7 +61,7 @@ parts_at k [] d within = absurd (omega (arith, within))
 parts_at zero (x ∷ xs) d within = refl
 parts_at (suc k) (x ∷ xs) d within = ap (λ ys. x ∷ ys) (parts_at k xs d (omega (arith, within)))
 
-same_at : {X : Type 0} (k : ℕ) (xs : List X) (d e : X) → k < length xs → get_or xs k d ≡ get_or xs k e
+pub same_at : {X : Type 0} (k : ℕ) (xs : List X) (d e : X) → k < length xs → get_or xs k d ≡ get_or xs k e
 same_at k [] d e within = absurd (omega (arith, within))
 same_at zero (x ∷ xs) d e within = refl
 same_at (suc k) (x ∷ xs) d e within = same_at k xs d e (omega (arith, within))
@@ -80,6 +80,9 @@ module _ (files now_files : Files) (names : List (String Global)) (place : ℕ) 
 
   many : place < length (map string_bytes names)
   many = rw length-map within
+
+  pub named_at : name_at (map string_bytes names) place ≡ string_bytes name
+  named_at = same_at place (map string_bytes names) [] (string_bytes name) many ∙ here
 
   pub next_read : (text : Content) (more : List Content) → IsRead 65536 now_files (string_bytes name) text
       → more ≡ texts ++ text ∷ [] → AreRead 65536 files (take (place + 1) (map string_bytes names)) more

@@ -15,6 +15,7 @@ pub mod Explained
 pub mod Imitated
 pub mod Invented
 pub mod Listed
+pub mod Little
 pub mod Marked
 pub mod Mixed
 pub mod Played

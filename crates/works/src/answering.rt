@@ -6,7 +6,8 @@ ghost use Rattle.command_words.specs.Commands.{mark_answer};
 ghost use Rattle.fux_grid.specs.Exercises.{IsValid};
 ghost use Rattle.fux_port.specs.Counts.{Rose};
 ghost use Rattle.works.specs.Answered.{MarksAnswer, MarksBy, ReadsLesson, answer_verdict};
-ghost use Rattle.works.specs.Blame.{BlamesNoFile, ServesTask};
+ghost use Rattle.works.specs.Blame.{Blames, BlamesNoFile, IsUnserved, ServesTask};
+ghost use Rattle.works.specs.Little.{ReadsLittle};
 ghost use Rattle.works.specs.Endings.{IsMade};
 ghost use Rattle.works.specs.Works.{Answers};
 
@@ -100,6 +101,10 @@ pub fn answer<'a, F: Shelf>(
         (Rose (F.faults shelf.old) (F.faults shelf.new)) result }
     ensures served { ServesTask (F.serves shelf.old) (F.files shelf.old)
         (mark_answer name.entry.now lesson.entry.now) → IfErr result BlamesNoFile }
+    ensures blamed { IfErr result (Blames (IsUnserved (F.serves shelf.old) (F.files shelf.old)
+        (mark_answer name.entry.now lesson.entry.now))) }
+    ensures little { ReadsLittle (mark_answer name.entry.now lesson.entry.now)
+        (F.files shelf.old) (F.given shelf.old) (F.given shelf.new) }
     ensures files { F.files shelf.new ≡ F.files shelf.old }
 {
     let text = read_content(alloc, shelf, name, LONGEST_TEXT)?;

@@ -3,7 +3,8 @@
 ghost use Rattle.std.specs.Prelude.{◌≡◌, IfErr, ℕ, List};
 ghost use Rattle.cantus_law.specs.Certificates.{Holds};
 ghost use Rattle.cantus_writer.specs.Heads.{said_with};
-ghost use Rattle.works.specs.Blame.{BlamesNoFile, ServesNames};
+ghost use Rattle.works.specs.Blame.{Blames, BlamesNoFile, IsUnserved, ServesNames};
+ghost use Rattle.works.specs.Little.{ReadsLittle};
 ghost use Rattle.works.specs.CantusCertified.{CertifiesPlan, CertifiesSaid, MakesCantusCertificate};
 ghost use Rattle.command_words.specs.Commands.{IsWanted, certify_cantus, sheet_named};
 ghost use Rattle.works.specs.TaskFiles.{as_list};
@@ -44,6 +45,10 @@ pub fn perform_cantus<'a, F: Shelf, K: Sink>(
         out.new result }
     ensures served { ServesNames (F.serves shelf.old) 65536 (as_list (sheet_named sheet.entry))
         → IfErr result BlamesNoFile }
+    ensures blamed { IfErr result (Blames (IsUnserved (F.serves shelf.old) (F.files shelf.old)
+        (certify_cantus wanted (sheet_named sheet.entry) budget))) }
+    ensures little { ReadsLittle (certify_cantus wanted (sheet_named sheet.entry) budget)
+        (F.files shelf.old) (F.given shelf.old) (F.given shelf.new) }
     ensures files { F.files shelf.new ≡ F.files shelf.old }
 {
     let weights = read_weights(alloc, shelf, sheet)?;

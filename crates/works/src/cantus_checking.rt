@@ -1,9 +1,10 @@
 //! The command `checkcantus`.
 
-ghost use Rattle.std.specs.Prelude.{◌≡◌, ◌≤◌, ℕ, List, IfErr};
+ghost use Rattle.std.specs.Prelude.{◌≡◌, ◌+◌, ◌≤◌, ℕ, List, IfErr};
 ghost use Rattle.fux_port.specs.Counts.{Rose};
 ghost use Rattle.fux_port.specs.Promises.{ServesWhole};
-ghost use Rattle.works.specs.Blame.{BlamesNoFile, IsReadWithin, ServesTask};
+ghost use Rattle.works.specs.Blame.{Blames, BlamesNoFile, IsReadWithin, IsUnserved, ServesTask};
+ghost use Rattle.works.specs.Little.{ReadsLittle};
 ghost use Rattle.works.specs.CantusChecked.{ChecksCantusBy, ChecksPlan};
 ghost use Rattle.works.specs.Checked.{AnswersWithin, IsUnreadable};
 ghost use Rattle.command_words.specs.Commands.{IsWanted, check_cantus, sheet_named};
@@ -40,6 +41,10 @@ pub fn checked_cantus<'a, F: Shelf>(
     ensures served { ServesTask (F.serves shelf.old) (F.files shelf.old)
         (check_cantus wanted certificate.entry.now (sheet_named sheet.entry))
         → IfErr result BlamesNoFile }
+    ensures blamed { IfErr result (Blames (IsUnserved (F.serves shelf.old) (F.files shelf.old)
+        (check_cantus wanted certificate.entry.now (sheet_named sheet.entry)))) }
+    ensures little { ReadsLittle (check_cantus wanted certificate.entry.now (sheet_named sheet.entry))
+        (F.files shelf.old) (F.given shelf.old) (F.given shelf.new) }
     ensures files { F.files shelf.new ≡ F.files shelf.old }
 {
     let weights = read_weights(alloc, shelf, sheet)?;
@@ -66,6 +71,7 @@ fn check_over<F: Shelf>(
         result }
     ensures served { ServesWhole (F.serves shelf.old) certificate.now 1073741824
         → IfErr result IsReadWithin }
+    ensures little { F.given shelf.new ≤ F.given shelf.old + 1073741825 }
     ensures files { F.files shelf.new ≡ F.files shelf.old }
     ensures faults { F.faults shelf.old ≤ F.faults shelf.new }
 {
@@ -87,6 +93,7 @@ fn check<F: Shelf>(
         (IsUnreadable F.files F.faults certificate.now shelf.old shelf.new) result }
     ensures served { ServesWhole (F.serves shelf.old) certificate.now 1073741824
         → IfErr result IsReadWithin }
+    ensures little { F.given shelf.new ≤ F.given shelf.old + 1073741825 }
     ensures files { F.files shelf.new ≡ F.files shelf.old }
     ensures faults { F.faults shelf.old ≤ F.faults shelf.new }
 {

@@ -4,8 +4,9 @@ ghost use Rattle.std.specs.Prelude.{◌≡◌, ◌<◌, ◌^◌, ◌∷◌, IfEr
 ghost use Rattle.cert_law.specs.Certificates.{Holds};
 ghost use Rattle.cert_writer.specs.Heads.{head_with};
 ghost use Rattle.fux_grid.specs.Exercises.{IsValid};
-ghost use Rattle.command_words.specs.Commands.{sheet_named};
-ghost use Rattle.works.specs.Blame.{BlamesNoFile, ServesNames};
+ghost use Rattle.command_words.specs.Commands.{certify, sheet_named};
+ghost use Rattle.works.specs.Blame.{Blames, BlamesNoFile, IsUnserved, ServesNames};
+ghost use Rattle.works.specs.Little.{ReadsLittle};
 ghost use Rattle.works.specs.Certified.{Certifies, CertifiesFound};
 ghost use Rattle.works.specs.Composed.{IsBoundText};
 ghost use Rattle.works.specs.Endings.{CertifiesTexts, CertifyEnds, WritesTo};
@@ -127,6 +128,10 @@ pub fn perform_certify<'a, F: Shelf, K: Sink, R: Threads + Sync>(
         budget form shelf.old shelf.new out.old out.new result }
     ensures served { ServesNames (F.serves shelf.old) 65536 (name.entry.now
         ∷ as_list (sheet_named sheet.entry)) → IfErr result BlamesNoFile }
+    ensures blamed { IfErr result (Blames (IsUnserved (F.serves shelf.old) (F.files shelf.old)
+        (certify name.entry.now (sheet_named sheet.entry) budget form))) }
+    ensures little { ReadsLittle (certify name.entry.now (sheet_named sheet.entry) budget form)
+        (F.files shelf.old) (F.given shelf.old) (F.given shelf.new) }
     ensures files { F.files shelf.new ≡ F.files shelf.old }
 {
     let text = read_content(alloc, shelf, name, LONGEST_TEXT)?;

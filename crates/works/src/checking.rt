@@ -1,6 +1,6 @@
 //! The command `check`.
 
-ghost use Rattle.std.specs.Prelude.{◌≡◌, ◌≤◌, IfErr, IfOk};
+ghost use Rattle.std.specs.Prelude.{◌≡◌, ◌+◌, ◌≤◌, IfErr, IfOk};
 ghost use Rattle.fux_grid.specs.Exercises.{IsValid};
 ghost use Rattle.fux_port.specs.Promises.{ServesWhole};
 ghost use Rattle.works.specs.Blame.{IsReadWithin};
@@ -32,6 +32,7 @@ pub fn check<F: Shelf, R: Threads + Sync>(
         shelf.new result }
     ensures served { ServesWhole (F.serves shelf.old) certificate.now 1073741824
         → IfErr result IsReadWithin }
+    ensures little { F.given shelf.new ≤ F.given shelf.old + 1073741825 }
     ensures files { F.files shelf.new ≡ F.files shelf.old }
     ensures faults { F.faults shelf.old ≤ F.faults shelf.new }
 {

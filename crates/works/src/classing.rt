@@ -1,12 +1,13 @@
 //! The command `class`.
 
-ghost use Rattle.std.specs.Prelude.{◌≡◌, ℕ, ◌<◌, ◌≤◌, IfErr, IfOk, List, length, map, string_bytes};
+ghost use Rattle.std.specs.Prelude.{◌≡◌, ℕ, ◌+◌, ◌*◌, ◌<◌, ◌≤◌, IfErr, IfOk, List, length, map, string_bytes};
 ghost use Rattle.fux_port.specs.Counts.{Rose};
-ghost use Rattle.works.specs.Blame.{BlamesNoFile, CouldRead, ServesNames, ServesTask};
+ghost use Rattle.works.specs.Blame.{Blames, BlamesNoFile, BlamesPlace, CouldRead, IsUnserved, IsUnservedIn, ServesNames, ServesTask};
 ghost use Rattle.works.specs.Classes.{IsClass, class_verdict};
 ghost use Rattle.command_words.specs.Commands.{class_report};
 ghost use Rattle.works.specs.Endings.{IsMade};
 ghost use Rattle.works.specs.Listed.{IsUnreadAt, ReadsTexts, ReportsFiles};
+ghost use Rattle.works.specs.Little.{ReadsLittle};
 ghost use Rattle.works.specs.Works.{AreContents};
 
 use crate::complaint::{Complaint, FileName};
@@ -46,6 +47,8 @@ fn read_texts<F: Shelf>(alloc: Global, shelf: &mut F, names: &[String]) -> Resul
         (map string_bytes names.now) result }
     ensures served { ServesNames (F.serves shelf.old) 65536 (map string_bytes names.now)
         → IfErr result CouldRead }
+    ensures blamed { IfErr result (BlamesPlace (F.serves shelf.old) (map string_bytes names.now)) }
+    ensures little { F.given shelf.new ≤ F.given shelf.old + 65537 * length names.now }
     ensures files { F.files shelf.new ≡ F.files shelf.old }
     ensures faults { F.faults shelf.old ≤ F.faults shelf.new }
 {
@@ -110,6 +113,9 @@ fn report_files<F: Shelf, R: Threads + Sync>(
         (Rose (F.faults shelf.old) (F.faults shelf.new)) (map string_bytes names.items) result }
     ensures served { ServesNames (F.serves shelf.old) 65536 (map string_bytes names.items)
         → IfErr result BlamesNoFile }
+    ensures blamed { IfErr result (Blames (IsUnservedIn (F.serves shelf.old) 65536
+        (map string_bytes names.items))) }
+    ensures little { F.given shelf.new ≤ F.given shelf.old + 65537 * length names.items }
     ensures files { F.files shelf.new ≡ F.files shelf.old }
     ensures faults { F.faults shelf.old ≤ F.faults shelf.new }
 {
@@ -134,6 +140,10 @@ pub fn class<'a, F: Shelf, R: Threads + Sync>(
         (Rose (F.faults shelf.old) (F.faults shelf.new)) result }
     ensures served { ServesTask (F.serves shelf.old) (F.files shelf.old)
         (class_report list.entry.now) → IfErr result BlamesNoFile }
+    ensures blamed { IfErr result (Blames (IsUnserved (F.serves shelf.old) (F.files shelf.old)
+        (class_report list.entry.now))) }
+    ensures little { ReadsLittle (class_report list.entry.now)
+        (F.files shelf.old) (F.given shelf.old) (F.given shelf.new) }
     ensures files { F.files shelf.new ≡ F.files shelf.old }
 {
     let text = read_content(alloc, shelf, list, LONGEST_TEXT)?;

@@ -1,6 +1,6 @@
 //! Reading a file.
 
-ghost use Rattle.std.specs.Prelude.{◌≡◌, ◌≤◌, IfErr};
+ghost use Rattle.std.specs.Prelude.{◌≡◌, ◌+◌, ◌≤◌, IfErr};
 ghost use Rattle.fux_port.specs.Counts.{Rose};
 ghost use Rattle.fux_port.specs.Promises.{Keeps, ServesWhole};
 ghost use Rattle.works.specs.Blame.{BlamesNoFile};
@@ -22,6 +22,7 @@ pub fn read_content<'a, F: Shelf>(
         name.now result }
     ensures served { ServesWhole (F.serves shelf.old) name.now limit → IfErr result BlamesNoFile }
     ensures serving { Keeps (F.serves shelf.old) (F.serves shelf.new) }
+    ensures little { F.given shelf.new ≤ F.given shelf.old + (limit + 1) }
     ensures files { F.files shelf.new ≡ F.files shelf.old }
     ensures faults { F.faults shelf.old ≤ F.faults shelf.new }
 {

@@ -1,15 +1,18 @@
 //! The command `class`, where each name of the list has its place in the report, also where its
 //! file can't be read.
 
-ghost use Rattle.std.specs.Prelude.{◌≡◌, ◌≤◌, ℕ, IfErr, IfOk, List, map, string_bytes};
+ghost use Rattle.std.specs.Prelude.{◌≡◌, ◌+◌, ◌*◌, ◌≤◌, ℕ, IfErr, IfOk, List, length, map, string_bytes};
 ghost use Rattle.std.specs.Option.{ForSome, option_copied};
+ghost use Rattle.answer_classes.specs.LooseLists.{loose_names};
 ghost use Rattle.class_marker.specs.Markings.{IsContent};
 ghost use Rattle.command_words.specs.Commands.{sheet_named};
 ghost use Rattle.command_words.specs.Commands as tasks;
 ghost use Rattle.fux_grid.specs.Exercises.{IsValid};
 ghost use Rattle.fux_port.specs.Counts.{Rose};
-ghost use Rattle.works.specs.Blame.{BlamesNoFile, ServesTask};
+ghost use Rattle.works.specs.Blame.{Blames, BlamesNoFile, IsUnserved, ServesTask};
 ghost use Rattle.works.specs.Endings.{IsMade};
+ghost use Rattle.works.specs.Little.{ReadsLittle};
+ghost use Rattle.works.specs.TaskFiles.{names_listed};
 ghost use Rattle.works.specs.WholeClasses.{AreSaid, IsWholeReport, ReportsBy, ReportsWhole, whole_output};
 ghost use Rattle.works.specs.Works.{Answers, IsOfCauses, OnTexts, ReadsOrNot};
 
@@ -35,6 +38,7 @@ fn content_or_none<F: Shelf>(
 ) -> Result<Option<Text>, Memory>
     ensures reads { ReadsOrNot (F.files shelf.old) (Rose (F.faults shelf.old) (F.faults shelf.new))
         name.now result }
+    ensures little { F.given shelf.new ≤ F.given shelf.old + 65537 }
     ensures files { F.files shelf.new ≡ F.files shelf.old }
     ensures faults { F.faults shelf.old ≤ F.faults shelf.new }
 {
@@ -55,6 +59,7 @@ fn say_names<F: Shelf>(
     requires { ForSome lesson (λ exercise. IsValid exercise.now) }
     ensures said { IfOk result (AreSaid (F.files shelf.old) (Rose (F.faults shelf.old) (F.faults shelf.new))
         (option_copied lesson.entry) (map string_bytes names.now)) }
+    ensures little { F.given shelf.new ≤ F.given shelf.old + 65537 * length names.now }
     ensures files { F.files shelf.new ≡ F.files shelf.old }
     ensures faults { F.faults shelf.old ≤ F.faults shelf.new }
 {
@@ -97,6 +102,7 @@ fn report_names<F: Shelf>(
     ensures reported { IfOk result (IsWholeReport (F.files shelf.old)
         (Rose (F.faults shelf.old) (F.faults shelf.new)) (option_copied lesson.entry)
         (map string_bytes names.now)) }
+    ensures little { F.given shelf.new ≤ F.given shelf.old + 65537 * length names.now }
     ensures files { F.files shelf.new ≡ F.files shelf.old }
     ensures faults { F.faults shelf.old ≤ F.faults shelf.new }
 {
@@ -116,6 +122,8 @@ fn report_list<F: Shelf>(
     ensures reported { (bytes : List ℕ) → IsContent 65536 list.now bytes
         → Answers (ReportsBy (F.files shelf.old) (Rose (F.faults shelf.old) (F.faults shelf.new))
         bytes (option_copied lesson.entry)) result }
+    ensures little { (bytes : List ℕ) → IsContent 65536 list.now bytes → F.given shelf.new
+        ≤ F.given shelf.old + 65537 * length (names_listed (loose_names bytes)) }
     ensures files { F.files shelf.new ≡ F.files shelf.old }
     ensures faults { F.faults shelf.old ≤ F.faults shelf.new }
 {
@@ -136,6 +144,8 @@ fn of_texts<F: Shelf>(
     ensures reported { OnTexts list.now given.now
         (λ bytes lessons. Answers (ReportsWhole (F.files shelf.old)
         (Rose (F.faults shelf.old) (F.faults shelf.new)) bytes lessons) result) }
+    ensures little { (bytes : List ℕ) → IsContent 65536 list.now bytes → F.given shelf.new
+        ≤ F.given shelf.old + 65537 * length (names_listed (loose_names bytes)) }
     ensures files { F.files shelf.new ≡ F.files shelf.old }
     ensures faults { F.faults shelf.old ≤ F.faults shelf.new }
 {
@@ -163,6 +173,10 @@ pub fn whole_class<'a, F: Shelf>(
     ensures causes { IsOfCauses (tasks.whole_class list.entry.now (sheet_named lesson.entry))
         (F.files shelf.old) (Rose (F.faults shelf.old) (F.faults shelf.new))
         (λ output told. told ≡ output) result }
+    ensures blamed { IfErr result (Blames (IsUnserved (F.serves shelf.old) (F.files shelf.old)
+        (tasks.whole_class list.entry.now (sheet_named lesson.entry)))) }
+    ensures little { ReadsLittle (tasks.whole_class list.entry.now (sheet_named lesson.entry))
+        (F.files shelf.old) (F.given shelf.old) (F.given shelf.new) }
     ensures files { F.files shelf.new ≡ F.files shelf.old }
 {
     let text = read_content(alloc, shelf, list, LONGEST_TEXT)?;

@@ -4,7 +4,8 @@ ghost use Rattle.std.specs.Prelude.{◌≡◌, ◌<◌, IfErr, IfOk, IsSome, len
 ghost use Rattle.canon_space.specs.Canons.{IsCanon};
 ghost use Rattle.canon_space.specs.Paths.{bars_at, live_at};
 ghost use Rattle.fux_port.specs.Counts.{Rose};
-ghost use Rattle.works.specs.Blame.{BlamesNoFile, ServesTask};
+ghost use Rattle.works.specs.Blame.{Blames, BlamesNoFile, IsUnserved, ServesTask};
+ghost use Rattle.works.specs.Little.{ReadsLittle};
 ghost use Rattle.command_words.specs.Commands.{find_canon, sheet_named};
 ghost use Rattle.works.specs.Composed.{penalty_line};
 ghost use Rattle.works.specs.Imitated.{MakesCanon, ReadsCanon, TellsCanon, canon_answer};
@@ -43,6 +44,10 @@ pub fn canon<'a, F: Shelf>(
         (F.files shelf.old) (Rose (F.faults shelf.old) (F.faults shelf.new)) result }
     ensures served { ServesTask (F.serves shelf.old) (F.files shelf.old)
         (find_canon name.entry.now (sheet_named sheet.entry) search) → IfErr result BlamesNoFile }
+    ensures blamed { IfErr result (Blames (IsUnserved (F.serves shelf.old) (F.files shelf.old)
+        (find_canon name.entry.now (sheet_named sheet.entry) search))) }
+    ensures little { ReadsLittle (find_canon name.entry.now (sheet_named sheet.entry) search)
+        (F.files shelf.old) (F.given shelf.old) (F.given shelf.new) }
     ensures files { F.files shelf.new ≡ F.files shelf.old }
 {
     let text = read_content(alloc, shelf, name, LONGEST_TEXT)?;

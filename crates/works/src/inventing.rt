@@ -2,7 +2,8 @@
 
 ghost use Rattle.std.specs.Prelude.{◌≡◌, ◌++◌, List, ℕ, IfErr, IfOk, string_bytes};
 ghost use Rattle.fux_port.specs.Counts.{Rose};
-ghost use Rattle.works.specs.Blame.{BlamesNoFile, ServesTask};
+ghost use Rattle.works.specs.Blame.{Blames, BlamesNoFile, IsUnserved, ServesTask};
+ghost use Rattle.works.specs.Little.{ReadsLittle};
 ghost use Rattle.command_words.specs.Commands.{IsWanted, find_cantus, sheet_named};
 ghost use Rattle.works.specs.TaskFiles.{as_list};
 ghost use Rattle.works.specs.Composed.{penalty_line};
@@ -39,6 +40,10 @@ pub fn new_cantus<'a, F: Shelf>(
         (Rose (F.faults shelf.old) (F.faults shelf.new)) result }
     ensures served { ServesTask (F.serves shelf.old) (F.files shelf.old)
         (find_cantus wanted (sheet_named sheet.entry) search) → IfErr result BlamesNoFile }
+    ensures blamed { IfErr result (Blames (IsUnserved (F.serves shelf.old) (F.files shelf.old)
+        (find_cantus wanted (sheet_named sheet.entry) search))) }
+    ensures little { ReadsLittle (find_cantus wanted (sheet_named sheet.entry) search)
+        (F.files shelf.old) (F.given shelf.old) (F.given shelf.new) }
     ensures files { F.files shelf.new ≡ F.files shelf.old }
 {
     let weights = read_weights(alloc, shelf, sheet)?;

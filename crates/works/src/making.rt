@@ -1,14 +1,15 @@
 //! What a command makes of its files.
 
-ghost use Rattle.std.specs.Prelude.{◌≡◌, ◌≤◌, IfErr};
+ghost use Rattle.std.specs.Prelude.{◌≡◌, ◌+◌, ◌*◌, ◌≤◌, IfErr, length};
 ghost use Rattle.fux_grid.specs.Exercises.{IsValid};
 ghost use Rattle.fux_port.specs.Counts.{Rose};
 ghost use Rattle.fux_port.specs.Promises.{Keeps, ServesWhole};
-ghost use Rattle.works.specs.Blame.{BlamesNoFile, IsReadWithin, ServesNames, ServesTask};
+ghost use Rattle.works.specs.Blame.{Blames, BlamesNoFile, IsReadWithin, IsUnserved, ServesNames, ServesTask};
 ghost use Rattle.command_words.specs.Commands.{HasMidiHead, making_task, sheet_named};
 ghost use Rattle.works.specs.TaskFiles.{as_list};
 ghost use Rattle.works.specs.Complaints.{refusal_text};
 ghost use Rattle.works.specs.Endings.{IsMade, Says, SaysRefusal, SaysWithin, SaysWritten};
+ghost use Rattle.works.specs.Little.{ReadsLittle};
 ghost use Rattle.works.specs.Works.{Answers, ChecksTexts, MakesOf, MakesOfText, OnTexts, ReadsSheetFile};
 
 use crate::answering::answer;
@@ -53,6 +54,10 @@ pub fn make<'a, F: Shelf, R: Threads + Sync>(
         (Rose (F.faults shelf.old) (F.faults shelf.new)) result }
     ensures served { ServesTask (F.serves shelf.old) (F.files shelf.old) (making_task making.entry)
         → IfErr result BlamesNoFile }
+    ensures blamed { IfErr result (Blames (IsUnserved (F.serves shelf.old) (F.files shelf.old)
+        (making_task making.entry))) }
+    ensures little { ReadsLittle (making_task making.entry)
+        (F.files shelf.old) (F.given shelf.old) (F.given shelf.new) }
     ensures files { F.files shelf.new ≡ F.files shelf.old }
 {
     match making {
@@ -123,6 +128,8 @@ pub fn read_weights<'a, F: Shelf>(
     ensures served { ServesNames (F.serves shelf.old) 65536 (as_list (sheet_named name.entry))
         → IfErr result BlamesNoFile }
     ensures serving { Keeps (F.serves shelf.old) (F.serves shelf.new) }
+    ensures little { F.given shelf.new ≤ F.given shelf.old
+        + 65537 * length (as_list (sheet_named name.entry)) }
     ensures files { F.files shelf.new ≡ F.files shelf.old }
     ensures faults { F.faults shelf.old ≤ F.faults shelf.new }
 {
@@ -162,6 +169,7 @@ fn check_texts<F: Shelf, R: Threads + Sync>(
         shelf.new result }
     ensures served { ServesWhole (F.serves shelf.old) certificate.now 1073741824
         → IfErr result IsReadWithin }
+    ensures little { F.given shelf.new ≤ F.given shelf.old + 1073741825 }
     ensures files { F.files shelf.new ≡ F.files shelf.old }
     ensures faults { F.faults shelf.old ≤ F.faults shelf.new }
 {

@@ -9,7 +9,8 @@ ghost use Rattle.fux_text.specs.Lines.{setting_text};
 ghost use Rattle.rule_law.specs.Prefixes.{IsSetting};
 ghost use Rattle.score_marker.specs.Marks.{AreMarks};
 ghost use Rattle.species_space.specs.Paths.{is_alive_path, prefix_at};
-ghost use Rattle.works.specs.Blame.{BlamesNoFile, ServesTask};
+ghost use Rattle.works.specs.Blame.{Blames, BlamesNoFile, IsUnserved, ServesTask};
+ghost use Rattle.works.specs.Little.{ReadsLittle};
 ghost use Rattle.command_words.specs.Commands.{AreNamed, on_mixed, sheet_named};
 ghost use Rattle.works.specs.Composed.{penalty_line};
 ghost use Rattle.works.specs.Mixed.{ComposesMixed, MakesMixed, MakesOfMixed, MarksMixed, NamesSpecies};
@@ -57,6 +58,10 @@ pub fn on_mixed<'a, F: Shelf>(
     ensures served { ServesTask (F.serves shelf.old) (F.files shelf.old)
         (on_mixed name.entry.now (sheet_named sheet.entry) named.now job)
         → IfErr result BlamesNoFile }
+    ensures blamed { IfErr result (Blames (IsUnserved (F.serves shelf.old) (F.files shelf.old)
+        (on_mixed name.entry.now (sheet_named sheet.entry) named.now job))) }
+    ensures little { ReadsLittle (on_mixed name.entry.now (sheet_named sheet.entry) named.now job)
+        (F.files shelf.old) (F.given shelf.old) (F.given shelf.new) }
     ensures files { F.files shelf.new ≡ F.files shelf.old }
 {
     let text = read_content(alloc, shelf, name, LONGEST_TEXT)?;

@@ -1,11 +1,12 @@
-use Rattle.std.proofs.Common.{[], ◌∷◌, Some, Err, inl}
+use Rattle.std.proofs.Common.{[], ◌∷◌, Some, Err, inl, refl, arith}
 use Rattle.std.proofs.lemmas.Result.{err_from_is_err_and}
 use Rattle.fux_port.specs.Counts.{Rose}
 use Rattle.fux_port.proofs.Rises.{rose_later}
 use Rattle.command_words.specs.Commands.{mark_answer}
 use Rattle.works.specs.Endings.{IsMade}
 use Rattle.works.proofs.AnsweredLemmas.{of_answer}
-use Rattle.works.proofs.BlameLemmas.{whole_kept}
+use Rattle.works.specs.Blame.{IsUnserved}
+use Rattle.works.proofs.BlameLemmas.{result_blames_none, text_blames, whole_kept}
 use Rattle.works.proofs.MakeLemmas.{made_said, read_same, sheet_unread}
 use Rattle.works.proofs.answering.answer.Goals as goal
 
@@ -54,3 +55,36 @@ returns-in_err-given-clause-served g c =
 
 pub returns-clause-served : goal.returns-clause-served
 returns-clause-served g c = λ _. c.said.ensures.reads
+
+pub returns-in_err-text-clause-blamed : goal.returns-in_err-text-clause-blamed
+returns-in_err-text-clause-blamed g c =
+    let told = err_from_is_err_and c.from_residual.result c.from_residual.ensures.1 in
+    rw (told.1, told.2) (text_blames (IsUnserved (g.F.Shelf.serves c.args.shelf.now) (g.F.Shelf.files c.args.shelf.now)
+    (mark_answer c.args.name.now c.args.lesson.now)) 65536 _ _
+    (g.F.Shelf.serves c.args.shelf.now) c.args.name.now _
+    c.in_err-text.ensures.reads c.in_err-text.ensures.served (λ denied. inl ((0, omega arith, refl), denied)))
+
+pub returns-in_err-given-clause-blamed : goal.returns-in_err-given-clause-blamed
+returns-in_err-given-clause-blamed g c =
+    let told = err_from_is_err_and c.from_residual-in_err-given.result c.from_residual-in_err-given.ensures.1 in
+    rw (told.1, told.2) (text_blames (IsUnserved (g.F.Shelf.serves c.args.shelf.now) (g.F.Shelf.files c.args.shelf.now)
+    (mark_answer c.args.name.now c.args.lesson.now)) 65536 _ _
+    (g.F.Shelf.serves c.read_content.new.shelf) c.args.lesson.now _
+    c.in_err-given.ensures.reads c.in_err-given.ensures.served (λ denied. inl (
+      (1, omega arith, refl),
+      λ promised. denied (whole_kept (g.F.Shelf.serves c.args.shelf.now) (g.F.Shelf.serves c.read_content.new.shelf)
+          c.args.lesson.now 65536 c.in_ok-text.ensures.serving promised),
+    )))
+
+pub returns-clause-blamed : goal.returns-clause-blamed
+returns-clause-blamed g c = result_blames_none _ c.said.result c.said.ensures.reads
+
+pub returns-in_err-text-clause-little : goal.returns-in_err-text-clause-little
+returns-in_err-text-clause-little g c = inl (omega (arith, c.read_content.ensures.little))
+
+pub returns-in_err-given-clause-little : goal.returns-in_err-given-clause-little
+returns-in_err-given-clause-little g c =
+    inl (omega (arith, c.read_content.ensures.little, c.read_content-2.ensures.little))
+
+pub returns-clause-little : goal.returns-clause-little
+returns-clause-little g c = inl (omega (arith, c.read_content.ensures.little, c.read_content-2.ensures.little))

@@ -1,11 +1,14 @@
-use Rattle.std.proofs.Common.{[], ◌∷◌, map, subst}
+use Rattle.std.proofs.Common.{[], ◌∷◌, inl, inr, map, refl, subst, arith}
 use Rattle.std.specs.Prelude.{string_bytes}
+use Rattle.std.proofs.lemmas.Result.{err_from_is_err_and}
 use Rattle.fux_port.specs.Counts.{Rose}
 use Rattle.fux_port.proofs.Rises.{rose_later}
-use Rattle.works.specs.Blame.{ServesNames}
+use Rattle.command_words.specs.Commands.{class_report}
+use Rattle.works.specs.Blame.{IsUnserved, IsUnservedIn, ServesNames}
 use Rattle.works.specs.TaskFiles.{names_listed}
-use Rattle.works.proofs.BlameLemmas.{names_kept}
+use Rattle.works.proofs.BlameLemmas.{blames_none, blames_so, names_kept, text_blames, whole_kept}
 use Rattle.works.proofs.ClassLemmas.{class_made, list_refused}
+use Rattle.works.proofs.LittleLemmas.{class_little, list_reads_on}
 use Rattle.works.proofs.classing.class.Goals as goal
 
 pub returns-in-Ok-clause-made : goal.returns-in-Ok-clause-made
@@ -34,3 +37,46 @@ returns-in-Ok-clause-served g c = λ promised.
     c.report_files.ensures.served (names_kept (serves c.args.shelf.now) (serves c.read_content.new.shelf) 65536 names
     c.in_ok-text.ensures.serving (subst (λ listed. ServesNames (serves c.args.shelf.now) 65536 (names_listed listed))
     (c.in-Ok.ensures read.bytes read.content) (promised.within (read.bytes ∷ []) (read.had, tt))))
+
+pub returns-in_err-text-clause-blamed : goal.returns-in_err-text-clause-blamed
+returns-in_err-text-clause-blamed g c =
+    let told = err_from_is_err_and c.from_residual.result c.from_residual.ensures.1 in
+    rw (told.1, told.2) (text_blames (IsUnserved (g.F.Shelf.serves c.args.shelf.now) (g.F.Shelf.files c.args.shelf.now)
+    (class_report c.args.list.now)) 65536 _ _
+    (g.F.Shelf.serves c.args.shelf.now) c.args.list.now _
+    c.in_err-text.ensures.reads c.in_err-text.ensures.served (λ denied. inl ((0, omega arith, refl), denied)))
+
+pub returns-in-Ok-clause-blamed : goal.returns-in-Ok-clause-blamed
+returns-in-Ok-clause-blamed g c =
+    let files = g.F.Shelf.files c.args.shelf.now in
+    let serves = g.F.Shelf.serves in
+    let list = c.args.list.now in
+    let names = c.in-Ok.names.items in
+    blames_so (IsUnservedIn (serves c.read_content.new.shelf) 65536 (map string_bytes names))
+    (IsUnserved (serves c.args.shelf.now) files (class_report list)) c.report_files.result
+    (λ name one. inr (
+      list_reads_on files list c.in_ok-text.text names name c.in_ok-text.ensures.reads
+          (λ bytes content. c.in-Ok.ensures bytes content) one.0,
+      λ promised. one.1 (whole_kept (serves c.args.shelf.now) (serves c.read_content.new.shelf) name 65536
+          c.in_ok-text.ensures.serving promised),
+    ))
+    c.report_files.ensures.blamed
+
+pub returns-in-Err-At-clause-blamed : goal.returns-in-Err-At-clause-blamed
+returns-in-Err-At-clause-blamed g c = blames_none _ c.refused.result c.refused.ensures.reads
+
+pub returns-in_err-text-clause-little : goal.returns-in_err-text-clause-little
+returns-in_err-text-clause-little g c = inl (omega (arith, c.read_content.ensures.little))
+
+pub returns-in-Ok-clause-little : goal.returns-in-Ok-clause-little
+returns-in-Ok-clause-little g c =
+    class_little (g.F.Shelf.files c.args.shelf.now) c.args.list.now c.in_ok-text.text c.in-Ok.names.items
+    (g.F.Shelf.given c.args.shelf.now) (g.F.Shelf.given c.read_content.new.shelf)
+    (g.F.Shelf.given c.report_files.new.shelf) c.in_ok-text.ensures.reads
+    (λ bytes content. c.in-Ok.ensures bytes content) c.read_content.ensures.little c.report_files.ensures.little
+
+pub returns-in-Err-At-clause-little : goal.returns-in-Err-At-clause-little
+returns-in-Err-At-clause-little g c = inl (omega (arith, c.read_content.ensures.little))
+
+pub returns-in-Err-Memory-clause-little : goal.returns-in-Err-Memory-clause-little
+returns-in-Err-Memory-clause-little g c = inl (omega (arith, c.read_content.ensures.little))

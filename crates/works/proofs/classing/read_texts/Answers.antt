@@ -1,9 +1,10 @@
-use Rattle.std.proofs.Common.{◌∙◌, arith}
+use Rattle.std.proofs.Common.{◌∙◌, subst, arith}
 use Rattle.fux_port.specs.Counts.{Rose}
 use Rattle.fux_port.proofs.Rises.{rose_later}
 use Rattle.std.specs.Prelude.{string_bytes}
 use Rattle.works.proofs.BlameLemmas.{name_served, whole_kept}
-use Rattle.works.proofs.ClassLemmas.{next_read, place_unread}
+use Rattle.fux_port.specs.Promises.{ServesWhole}
+use Rattle.works.proofs.ClassLemmas.{named_at, next_read, place_unread}
 use Rattle.works.proofs.classing.read_texts.Goals as goal
 
 pub loop-place-preserved : goal.loop-place-preserved
@@ -17,6 +18,7 @@ loop-place-preserved g c =
       same = c.read_content.ensures.files ∙ old.same;
       serving = λ name offset promised. c.read_content.ensures.serving name offset (old.serving name offset promised);
       later = omega (arith, old.later, c.read_content.ensures.faults);
+      little = omega (arith, old.little, c.read_content.ensures.little);
     }
 
 pub returns-in-Err-Unreadable-clause-reads : goal.returns-in-Err-Unreadable-clause-reads
@@ -39,3 +41,15 @@ returns-in-Err-Unreadable-clause-served g c = λ promised.
     known (whole_kept (serves c.args.shelf.now) (serves c.loop-place.shelf) (string_bytes name) 65536 old.serving
     (name_served (serves c.args.shelf.now) 65536 c.loop-place.place c.args.names.now name c.loop-place-test.true
     c.index-names-place.is promised))
+
+pub returns-in-Err-Unreadable-clause-blamed : goal.returns-in-Err-Unreadable-clause-blamed
+returns-in-Err-Unreadable-clause-blamed g c = λ promised.
+    let files = g.F.Shelf.files in
+    let serves = g.F.Shelf.serves in
+    let old = c.loop-place.invariant in
+    let name = c.index-names-place.result in
+    let known = rw (c.in-Err-Unreadable.field-0-is, c.as_str.ensures.value) at c.in-Err-Unreadable.ensures.served in
+    let is = named_at (files c.args.shelf.now) (files c.loop-place.shelf) c.args.names.now c.loop-place.place name
+    c.loop-place.texts.items c.loop-place-test.true c.index-names-place.is old.read old.same in
+    known (whole_kept (serves c.args.shelf.now) (serves c.loop-place.shelf) (string_bytes name) 65536 old.serving
+    (subst (λ named. ServesWhole (serves c.args.shelf.now) named 65536) is promised))

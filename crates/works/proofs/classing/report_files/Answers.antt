@@ -1,6 +1,7 @@
 use Rattle.std.proofs.Common.{◌≡◌, ap, length, map, arith}
 use Rattle.std.specs.Prelude.{string_bytes}
 use Rattle.std.proofs.lemmas.List.{length-map}
+use Rattle.works.proofs.BlameLemmas.{place_blames}
 use Rattle.works.proofs.ClassLemmas.{class_in, same_count}
 use Rattle.works.proofs.classing.report_files.Goals as goal
 
@@ -28,3 +29,11 @@ returns-in-Ok-report_output-clause-reports g c =
 pub returns-in-Err-At-clause-served : goal.returns-in-Err-At-clause-served
 returns-in-Err-At-clause-served g c = λ promised.
     absurd (rw c.in-Err-At.field-0-is at (c.in-Err-At.ensures.served (rw c.deref.ensures.value promised)))
+
+pub returns-in-Err-At-clause-blamed : goal.returns-in-Err-At-clause-blamed
+returns-in-Err-At-clause-blamed g c =
+    let names = map string_bytes c.args.names.items in
+    let serves = g.F.Shelf.serves c.args.shelf.now in
+    let known = rw (c.in-Err-At.field-0-is, c.deref.ensures.value) at c.in-Err-At.ensures.reads in
+    place_blames serves names c.in-Err-At.place c.unreadable.result known.0 c.unreadable.ensures
+    (rw (c.in-Err-At.field-0-is, c.deref.ensures.value) at c.in-Err-At.ensures.blamed)

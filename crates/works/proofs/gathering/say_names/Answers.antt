@@ -15,6 +15,7 @@ loop-place-init g c = record {
   said = none_said (g.F.Shelf.files c.args.shelf.now) _ (option_copied c.args.lesson) c.new-report.result c.new-report.ensures;
   same = search;
   later = omega arith;
+  little = omega arith;
 }
 
 pub put_said-requires-clause-marked : goal.put_said-requires-clause-marked
@@ -62,6 +63,7 @@ loop-place-preserved g c =
           c.as_str-name.ensures.value c.in_ok-put_said.ensures);
       same = c.content_or_none.ensures.files ∙ old.same;
       later = omega (arith, old.later, c.content_or_none.ensures.faults);
+      little = omega (arith, old.little, c.content_or_none.ensures.little);
     }
 
 pub returns-clause-said : goal.returns-clause-said

@@ -1,4 +1,4 @@
-use Rattle.std.proofs.Common.{◌≡◌, ◌≤◌, map, take}
+use Rattle.std.proofs.Common.{◌≡◌, ◌+◌, ◌*◌, ◌≤◌, map, take}
 use Rattle.std.specs.Prelude.{string_bytes}
 use Rattle.std.specs.Option.{option_copied}
 use Rattle.fux_port.specs.Counts.{Rose}
@@ -12,4 +12,5 @@ invariant-loop-place g l = record {
       (take l.place (map string_bytes l.names)) l.report;
   same : g.F.Shelf.files l.shelf ≡ g.F.Shelf.files l.initial.shelf;
   later : g.F.Shelf.faults l.initial.shelf ≤ g.F.Shelf.faults l.shelf;
+  little : g.F.Shelf.given l.shelf ≤ g.F.Shelf.given l.initial.shelf + 65537 * l.place;
 }

@@ -1,11 +1,13 @@
-use Rattle.std.proofs.Common.{Err, inl, ◌∷◌}
+use Rattle.std.proofs.Common.{Err, inl, refl, ◌∷◌, arith}
 use Rattle.std.proofs.lemmas.Result.{err_from_is_err_and}
 use Rattle.fux_port.specs.Counts.{Rose}
 use Rattle.fux_port.proofs.Rises.{rose_later}
 use Rattle.works.specs.TaskFiles.{as_list}
 use Rattle.command_words.specs.Commands.{sheet_named, whole_class}
 use Rattle.works.specs.Endings.{IsMade}
-use Rattle.works.proofs.BlameLemmas.{names_kept}
+use Rattle.works.specs.Blame.{IsUnserved}
+use Rattle.works.proofs.BlameLemmas.{names_kept, result_blames_none, served_later, sheet_blames, text_blames}
+use Rattle.works.proofs.LittleLemmas.{whole_little}
 use Rattle.works.proofs.MakeLemmas.{made_said, read_same, sheet_unread}
 use Rattle.works.proofs.WholeLemmas.{causes_told, of_whole}
 use Rattle.works.proofs.gathering.whole_class.Goals as goal
@@ -84,3 +86,43 @@ returns-clause-causes g c =
     )
     (rw (c.in_ok-given.ensures.files, c.in_ok-text.ensures.files) at c.of_texts.ensures.reported)
     c.said.ensures.says
+
+pub returns-in_err-text-clause-blamed : goal.returns-in_err-text-clause-blamed
+returns-in_err-text-clause-blamed g c =
+    let told = err_from_is_err_and c.from_residual.result c.from_residual.ensures.1 in
+    rw (told.1, told.2) (text_blames (IsUnserved (g.F.Shelf.serves c.args.shelf.now) (g.F.Shelf.files c.args.shelf.now)
+    (whole_class c.args.list.now (sheet_named c.args.lesson))) 65536 _ _
+    (g.F.Shelf.serves c.args.shelf.now) c.args.list.now _
+    c.in_err-text.ensures.reads c.in_err-text.ensures.served (λ denied. inl ((0, omega arith, refl), denied)))
+
+pub returns-in_err-given-clause-blamed : goal.returns-in_err-given-clause-blamed
+returns-in_err-given-clause-blamed g c =
+    let told = err_from_is_err_and c.from_residual-in_err-given.result c.from_residual-in_err-given.ensures.1 in
+    rw (told.1, told.2) (sheet_blames (IsUnserved (g.F.Shelf.serves c.args.shelf.now) (g.F.Shelf.files c.args.shelf.now)
+    (whole_class c.args.list.now (sheet_named c.args.lesson))) _ _
+    (g.F.Shelf.serves c.args.shelf.now) (g.F.Shelf.serves c.read_content.new.shelf) (sheet_named c.args.lesson) _
+    c.in_err-given.ensures.reads c.in_ok-text.ensures.serving c.in_err-given.ensures.served
+    (λ name one. inl (served_later _ _ c.args.list.now (as_list (sheet_named c.args.lesson)) name one)))
+
+pub returns-clause-blamed : goal.returns-clause-blamed
+returns-clause-blamed g c = result_blames_none _ c.said.result c.said.ensures.reads
+
+pub returns-in_err-text-clause-little : goal.returns-in_err-text-clause-little
+returns-in_err-text-clause-little g c = inl (omega (arith, c.read_content.ensures.little))
+
+pub returns-in_err-given-clause-little : goal.returns-in_err-given-clause-little
+returns-in_err-given-clause-little g c =
+    inl (omega (arith, c.read_content.ensures.little, c.read_weights.ensures.little))
+
+pub returns-clause-little : goal.returns-clause-little
+returns-clause-little g c =
+    let files = g.F.Shelf.files in
+    let given = g.F.Shelf.given in
+    let lesson = sheet_named c.args.lesson in
+    whole_little (files c.args.shelf.now) c.args.list.now lesson c.in_ok-text.text c.in_ok-given.given
+    (given c.args.shelf.now) (given c.read_content.new.shelf) (given c.read_weights.new.shelf)
+    (given c.of_texts.new.shelf) (
+      c.in_ok-text.ensures.reads,
+      read_same 65536 (files c.args.shelf.now) _ (as_list lesson) (as_list c.in_ok-given.given)
+          c.in_ok-text.ensures.files c.in_ok-given.ensures.reads,
+    ) c.read_content.ensures.little c.read_weights.ensures.little c.of_texts.ensures.little

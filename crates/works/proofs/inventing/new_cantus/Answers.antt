@@ -1,6 +1,9 @@
+use Rattle.std.proofs.Common.{inl, arith}
 use Rattle.std.proofs.lemmas.Result.{err_from_is_err_and}
 use Rattle.works.specs.TaskFiles.{as_list}
 use Rattle.command_words.specs.Commands.{find_cantus, sheet_named}
+use Rattle.works.specs.Blame.{IsUnserved}
+use Rattle.works.proofs.BlameLemmas.{result_blames_none, sheet_blames}
 use Rattle.works.proofs.CantusLemmas.{of_cantus, sheet_alone_unread}
 use Rattle.works.proofs.MakeLemmas.{made_said}
 use Rattle.works.proofs.inventing.new_cantus.Goals as goal
@@ -28,3 +31,21 @@ returns-in_err-weights-clause-served g c =
 
 pub returns-clause-served : goal.returns-clause-served
 returns-clause-served g c = λ _. c.said.ensures.reads
+
+pub returns-in_err-weights-clause-blamed : goal.returns-in_err-weights-clause-blamed
+returns-in_err-weights-clause-blamed g c =
+    let told = err_from_is_err_and c.from_residual.result c.from_residual.ensures.1 in
+    let serves = g.F.Shelf.serves c.args.shelf.now in
+    rw (told.1, told.2) (sheet_blames (IsUnserved serves (g.F.Shelf.files c.args.shelf.now)
+    (find_cantus c.args.wanted (sheet_named c.args.sheet) c.args.search)) _ _ serves serves (sheet_named c.args.sheet) _
+    c.in_err-weights.ensures.reads (λ name offset promised. promised) c.in_err-weights.ensures.served
+    (λ name one. inl one))
+
+pub returns-clause-blamed : goal.returns-clause-blamed
+returns-clause-blamed g c = result_blames_none _ c.said.result c.said.ensures.reads
+
+pub returns-in_err-weights-clause-little : goal.returns-in_err-weights-clause-little
+returns-in_err-weights-clause-little g c = inl (omega (arith, c.read_weights.ensures.little))
+
+pub returns-clause-little : goal.returns-clause-little
+returns-clause-little g c = inl (omega (arith, c.read_weights.ensures.little))

@@ -1,11 +1,12 @@
-use Rattle.std.proofs.Common.{Err, inl, ◌∷◌}
+use Rattle.std.proofs.Common.{Err, inl, refl, ◌∷◌, arith}
 use Rattle.std.proofs.lemmas.Result.{err_from_is_err_and}
 use Rattle.fux_port.specs.Counts.{Rose}
 use Rattle.fux_port.proofs.Rises.{rose_later}
 use Rattle.works.specs.TaskFiles.{as_list}
 use Rattle.command_words.specs.Commands.{on_mixed, sheet_named}
 use Rattle.works.specs.Endings.{IsMade}
-use Rattle.works.proofs.BlameLemmas.{names_kept}
+use Rattle.works.specs.Blame.{IsUnserved}
+use Rattle.works.proofs.BlameLemmas.{names_kept, result_blames_none, served_later, sheet_blames, text_blames}
 use Rattle.works.proofs.MixedLemmas.{of_mixed_texts}
 use Rattle.works.proofs.MakeLemmas.{made_said, read_same, sheet_unread}
 use Rattle.works.proofs.mixing.on_mixed.Goals as goal
@@ -56,3 +57,33 @@ returns-in_err-weights-clause-served g c =
 
 pub returns-clause-served : goal.returns-clause-served
 returns-clause-served g c = λ _. c.said.ensures.reads
+
+pub returns-in_err-text-clause-blamed : goal.returns-in_err-text-clause-blamed
+returns-in_err-text-clause-blamed g c =
+    let told = err_from_is_err_and c.from_residual.result c.from_residual.ensures.1 in
+    rw (told.1, told.2) (text_blames (IsUnserved (g.F.Shelf.serves c.args.shelf.now) (g.F.Shelf.files c.args.shelf.now)
+    (on_mixed c.args.name.now (sheet_named c.args.sheet) c.args.named.now c.args.job)) 65536 _ _
+    (g.F.Shelf.serves c.args.shelf.now) c.args.name.now _
+    c.in_err-text.ensures.reads c.in_err-text.ensures.served (λ denied. inl ((0, omega arith, refl), denied)))
+
+pub returns-in_err-weights-clause-blamed : goal.returns-in_err-weights-clause-blamed
+returns-in_err-weights-clause-blamed g c =
+    let told = err_from_is_err_and c.from_residual-in_err-weights.result c.from_residual-in_err-weights.ensures.1 in
+    rw (told.1, told.2) (sheet_blames (IsUnserved (g.F.Shelf.serves c.args.shelf.now) (g.F.Shelf.files c.args.shelf.now)
+    (on_mixed c.args.name.now (sheet_named c.args.sheet) c.args.named.now c.args.job)) _ _
+    (g.F.Shelf.serves c.args.shelf.now) (g.F.Shelf.serves c.read_content.new.shelf) (sheet_named c.args.sheet) _
+    c.in_err-weights.ensures.reads c.in_ok-text.ensures.serving c.in_err-weights.ensures.served
+    (λ name one. inl (served_later _ _ c.args.name.now (as_list (sheet_named c.args.sheet)) name one)))
+
+pub returns-clause-blamed : goal.returns-clause-blamed
+returns-clause-blamed g c = result_blames_none _ c.said.result c.said.ensures.reads
+
+pub returns-in_err-text-clause-little : goal.returns-in_err-text-clause-little
+returns-in_err-text-clause-little g c = inl (omega (arith, c.read_content.ensures.little))
+
+pub returns-in_err-weights-clause-little : goal.returns-in_err-weights-clause-little
+returns-in_err-weights-clause-little g c =
+    inl (omega (arith, c.read_content.ensures.little, c.read_weights.ensures.little))
+
+pub returns-clause-little : goal.returns-clause-little
+returns-clause-little g c = inl (omega (arith, c.read_content.ensures.little, c.read_weights.ensures.little))
