@@ -1,12 +1,15 @@
--- How a run ends that makes something and then writes it (`made_written`, `made_cut`, `not_made`).
-use Rattle.std.proofs.Common.{◌≡◌, ℕ, List, Option, Ok, Err, length, refl, sym, subst}
+-- How a run ends that makes something and then writes it (`made_written`, `made_cut`, `not_made`), and
+-- that nothing is to be told of causes where no such class is reported (`no_causes`).
+use Rattle.std.proofs.Common.{◌≡◌, ℕ, List, Option, Result, Ok, Err, length, refl, sym, subst}
 use Rattle.fux_port.specs.Written.{StopsShort, appended}
-use Rattle.command_words.specs.Commands.{Task}
+use Rattle.command_words.specs.Commands.{Task, making_task}
+use Rattle.command_words.specs.declared.command.Making.{Making}
+use Rattle.command_words.specs.declared.command.Making.TheVariants.{Class}
 use Rattle.works.specs.declared.complaint.Complaint.{Complaint}
 use Rattle.works.specs.declared.complaint.Complaint.TheVariants.{Usage, Refused, Unreadable, Unwritable, OutOfMemory}
 use Rattle.works.specs.declared.work.Output.{Output}
 use Rattle.works.specs.Endings.{Ended, IsCut, IsMade, IsWritten}
-use Rattle.works.specs.Works.{Files}
+use Rattle.works.specs.Works.{Files, IsOfCauses}
 use Rattle.works.proofs.WorkLemmas.{works_so}
 
 module _ (task : Task) (files : Files) (rose : Type 0) (cut : ℕ → Type 0) (old new : Option (List ℕ)) where
@@ -29,3 +32,8 @@ module _ (task : Task) (files : Files) (rose : Type 0) (cut : ℕ → Type 0) (o
   not_made OutOfMemory same made = same
   not_made Usage same made = made
   not_made Unwritable same made = absurd made
+
+pub no_causes : {A E : Type 0} (making : Making) (files : Files) (rose : Type 0) (Holds : A → Output → Type 0)
+    (result : Result A E) → IsOfCauses (making_task making) files rose Holds result
+no_causes (Class list) files rose Holds result = tt
+no_causes _ files rose Holds result = tt

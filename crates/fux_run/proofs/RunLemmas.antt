@@ -2,21 +2,25 @@
 -- `run`.
 use Rattle.std.proofs.Common.{◌≡◌, ◌≢◌, ℕ, ◌<◌, List, [], All, Contains, Option, None, Some, Result, Ok, Err, ◌⊎◌, inl, inr, refl, sym, ◌∙◌, ap, subst, codes, length, arith}
 use Rattle.std.proofs.lemmas.List.Elements.{All-contains}
+use Rattle.std.specs.Prelude.{IfErr}
 use Rattle.fux_port.specs.Files.{HasFile, IsMissing}
+use Rattle.fux_port.specs.Promises.{Reads}
 use Rattle.works.specs.declared.complaint.Complaint.{Complaint}
 use Rattle.works.specs.declared.complaint.Complaint.TheVariants.{Usage, Refused, Unreadable, Unwritable, OutOfMemory}
+use Rattle.works.specs.declared.work.Output.{Output}
 use Rattle.works.specs.declared.work.Verdict.{Verdict}
 use Rattle.works.specs.declared.work.Verdict.TheVariants.{Favorable, Unfavorable, Spent}
-use Rattle.command_words.specs.Commands.{Task}
+use Rattle.command_words.specs.Commands.{Task, whole_class}
 use Rattle.works.specs.TaskFiles.{name_in, names_in, names_within}
 use Rattle.fux_run.specs.Tellings.{complaint_status, fux_line}
+use Rattle.works.specs.Blame.{Blames, IsUnserved}
 use Rattle.works.specs.Complaints.{name_text}
 use Rattle.fux_run.specs.declared.status.Status.{Status}
 use Rattle.fux_run.specs.declared.status.Status.TheVariants as status
 use Rattle.works.specs.Endings.{Ended, IsCut, IsUnread, IsWritten, IsRefused, work_output}
 use Rattle.fux_run.specs.Runs.{EndedAs, EndsAs, EndsUnread, IsDone, IsStopped, result_status, result_line}
 use Rattle.fux_run.specs.Statuses.{code_of, verdict_status}
-use Rattle.works.specs.Works.{AllHave, Files, IsReadyFor, Works}
+use Rattle.works.specs.Works.{AllHave, Files, IsOfCauses, IsReadyFor, TellsCauses, Works}
 use Rattle.works.proofs.CheckLemmas.{part_is_there, refused_unready, written_is_there}
 use Rattle.fux_run.proofs.SinkLemmas.{appended-none}
 use Rattle.works.proofs.WorkLemmas.{all_are_there, first_is_missing, none_missing, only_bytes, works_so}
@@ -37,6 +41,15 @@ done_is_none code OutOfMemory done is = grind arith
 
 done_not_stopped : (code : ℕ) → IsDone code → IsStopped code → ⊥
 done_not_stopped code done stopped = grind arith
+
+-- the report of a class that a run wrote
+pub ran_causes : (list : List ℕ) (lesson : Option (List ℕ)) (files : Files) (rose : Type 0) (Holds : Output → Type 0)
+    (result : Result Verdict Complaint) (code : ℕ) → code ≡ code_of (result_status result) → IsDone code
+    → IsOfCauses (whole_class list lesson) files rose (λ verdict. Holds) result
+    → TellsCauses list lesson files rose Holds
+ran_causes list lesson files rose Holds (Ok verdict) code status done told = told
+ran_causes list lesson files rose Holds (Err complaint) code status done told =
+    absurd (done_is_none code complaint done status)
 
 -- so many bytes could not be written
 abbrev HasCut : (ℕ → Type 0) → Type 0
@@ -77,16 +90,18 @@ module _ (task : Task) (files : Files) (rose : Type 0) (cut : ℕ → Type 0) (o
   ran_works (Err OutOfMemory) ran read room = absurd (room ran.status)
   ran_works (Err Usage) ran read room = absurd ran.ended
 
-  pub ran_unreadable : (result : Result Verdict Complaint) → Ran task files rose cut old new result code Complains
-      → code ≡ 4
-      → EndsUnread task files rose Complains
-  ran_unreadable (Ok verdict) ran four =
+  pub ran_unreadable : (serves : Reads) (result : Result Verdict Complaint)
+      → Ran task files rose cut old new result code Complains
+      → IfErr result (Blames (IsUnserved serves files task)) → code ≡ 4
+      → EndsUnread task files serves rose Complains
+  ran_unreadable serves (Ok verdict) ran blames four =
       absurd (done_not_stopped 4 (rw four at (done verdict ran)) (inr (inr (inl refl))))
-  ran_unreadable (Err (Unreadable name)) ran four = record { name = name_text name; unread = ran.ended.1; told = ran.told }
-  ran_unreadable (Err (Refused text)) ran four = cc (ran.status, four)
-  ran_unreadable (Err Unwritable) ran four = cc (ran.status, four)
-  ran_unreadable (Err OutOfMemory) ran four = cc (ran.status, four)
-  ran_unreadable (Err Usage) ran four = absurd ran.ended
+  ran_unreadable serves (Err (Unreadable name)) ran blames four =
+      record { name = name_text name; unread = ran.ended.1; unserved = blames; told = ran.told }
+  ran_unreadable serves (Err (Refused text)) ran blames four = cc (ran.status, four)
+  ran_unreadable serves (Err Unwritable) ran blames four = cc (ran.status, four)
+  ran_unreadable serves (Err OutOfMemory) ran blames four = cc (ran.status, four)
+  ran_unreadable serves (Err Usage) ran blames four = absurd ran.ended
 
   pub ran_missing : (result : Result Verdict Complaint) → Ran task files rose cut old new result code Complains
       → (name : List ℕ) → Contains (names_in task) name → IsMissing files name → code ≢ 7 → code ≡ 4

@@ -1,5 +1,6 @@
 -- How a run ends.
 use Rattle.std.specs.Prelude.{◌≡◌, ℕ, ◌⊎◌, List, [], ◌++◌, String, Option, None, Some, Result, Ok, Err, codes}
+use Rattle.fux_port.specs.Promises.{Reads}
 use Rattle.fux_port.specs.Written.{appended}
 use Rattle.works.specs.declared.complaint.Complaint.{Complaint}
 use Rattle.works.specs.declared.complaint.Complaint.TheVariants as complaint
@@ -8,6 +9,7 @@ use Rattle.fux_run.specs.declared.status.Status.TheVariants.{Favorable, Unfavora
 use Rattle.works.specs.declared.work.Verdict.{Verdict}
 use Rattle.command_words.specs.Commands.{Task, asked, texts}
 use Rattle.fux_run.specs.Tellings.{complaint_status, complaint_text, fux_line}
+use Rattle.works.specs.Blame.{IsUnserved}
 use Rattle.works.specs.Complaints.{refusal_text}
 use Rattle.fux_run.specs.Statuses.{code_of, verdict_status}
 use Rattle.works.specs.Texts.{Work}
@@ -31,10 +33,12 @@ EndsAs name code Cut old new Complains work =
     ((code ≡ code_of (work_status work)) × (new ≡ appended old (work_output work)) × Complains (work_line name work))
     ⊎ ((code ≡ code_of Unwritable) × IsCut Cut old new work × Complains (fux_line (codes "cannot write")))
 
--- a run ends as one whose file cannot be read
-pub record EndsUnread (task : Task) (files : Files) (rose : Type 0) (Complains : List ℕ → Type 0) : Type 0 where
+-- a run ends as one whose file cannot be read, and of which not each read was promised
+pub record EndsUnread (task : Task) (files : Files) (serves : Reads) (rose : Type 0) (Complains : List ℕ → Type 0) : Type 0
+  where
   pub name : List ℕ
   pub unread : IsUnreadOf task files rose name
+  pub unserved : IsUnserved serves files task name
   pub told : Complains (fux_line (codes "cannot read " ++ name))
 
 -- the statuses of a run that wrote its output

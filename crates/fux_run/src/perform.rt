@@ -1,10 +1,14 @@
 //! The work of a command on its files.
 
 ghost use Rattle.std.specs.Prelude.{◌≡◌, IfErr};
-ghost use Rattle.works.specs.Blame.{BlamesNoFile, ServesTask};
+ghost use Rattle.fux_port.specs.Counts.{Rose};
+ghost use Rattle.fux_port.specs.Written.{appended};
+ghost use Rattle.works.specs.Blame.{Blames, BlamesNoFile, IsUnserved, ServesTask};
 ghost use Rattle.command_words.specs.Commands.{HasHead, HasMidiHead, making_task, sheet_named, task_of};
 ghost use Rattle.command_words.specs.Commands as tasks;
 ghost use Rattle.works.specs.Endings.{Ended, EndsOn};
+ghost use Rattle.works.specs.Little.{ReadsLittle};
+ghost use Rattle.works.specs.Works.{IsOfCauses};
 
 use command_words::{Command, Making};
 use fux_port::{Failed, Shelf, Sink, write_all};
@@ -25,6 +29,13 @@ pub fn perform<'a, F: Shelf, K: Sink, R: Threads + Sync>(
         (Ended (task_of command.entry)) shelf.old shelf.new out.old out.new result }
     ensures served { ServesTask (F.serves shelf.old) (F.files shelf.old) (task_of command.entry)
         → IfErr result BlamesNoFile }
+    ensures blamed { IfErr result (Blames (IsUnserved (F.serves shelf.old) (F.files shelf.old)
+        (task_of command.entry))) }
+    ensures little { ReadsLittle (task_of command.entry) (F.files shelf.old) (F.given shelf.old)
+        (F.given shelf.new) }
+    ensures causes { IsOfCauses (task_of command.entry) (F.files shelf.old)
+        (Rose (F.faults shelf.old) (F.faults shelf.new))
+        (λ verdict told. K.written out.new ≡ appended (K.written out.old) told.bytes) result }
     ensures files { F.files shelf.new ≡ F.files shelf.old }
 {
     match command {
@@ -57,6 +68,10 @@ fn perform_making<'a, F: Shelf, K: Sink, R: Threads + Sync>(
         (Ended (making_task making.entry)) shelf.old shelf.new out.old out.new result }
     ensures served { ServesTask (F.serves shelf.old) (F.files shelf.old) (making_task making.entry)
         → IfErr result BlamesNoFile }
+    ensures blamed { IfErr result (Blames (IsUnserved (F.serves shelf.old) (F.files shelf.old)
+        (making_task making.entry))) }
+    ensures little { ReadsLittle (making_task making.entry) (F.files shelf.old) (F.given shelf.old)
+        (F.given shelf.new) }
     ensures files { F.files shelf.new ≡ F.files shelf.old }
 {
     let output = make(rt, alloc, making, shelf)?;
@@ -80,6 +95,13 @@ fn perform_class<'a, F: Shelf, K: Sink>(
         out.old out.new result }
     ensures served { ServesTask (F.serves shelf.old) (F.files shelf.old)
         (tasks.whole_class list.entry.now (sheet_named lesson.entry)) → IfErr result BlamesNoFile }
+    ensures blamed { IfErr result (Blames (IsUnserved (F.serves shelf.old) (F.files shelf.old)
+        (tasks.whole_class list.entry.now (sheet_named lesson.entry)))) }
+    ensures little { ReadsLittle (tasks.whole_class list.entry.now (sheet_named lesson.entry))
+        (F.files shelf.old) (F.given shelf.old) (F.given shelf.new) }
+    ensures causes { IsOfCauses (tasks.whole_class list.entry.now (sheet_named lesson.entry))
+        (F.files shelf.old) (Rose (F.faults shelf.old) (F.faults shelf.new))
+        (λ verdict told. K.written out.new ≡ appended (K.written out.old) told.bytes) result }
     ensures files { F.files shelf.new ≡ F.files shelf.old }
 {
     let output = whole_class(alloc, list, lesson, shelf)?;

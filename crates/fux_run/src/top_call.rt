@@ -1,18 +1,20 @@
 //! The top call.
 
-ghost use Rattle.std.specs.Prelude.{◌≡◌, ◌≢◌, ℕ, ◌<◌, ◌⊎◌, Contains, List, None, Some, IfErr, codes};
+ghost use Rattle.std.specs.Prelude.{◌≡◌, ◌≢◌, ℕ, ◌<◌, ◌⊎◌, Contains, List, Option, None, Some, IfErr, codes};
 ghost use Rattle.fux_port.specs.Counts.{Rose};
 ghost use Rattle.fux_port.specs.Files.{IsMissing};
 ghost use Rattle.fux_port.specs.Promises.{Fails, TakesAll};
-ghost use Rattle.works.specs.Blame.{BlamesNoFile, ServesTask};
-ghost use Rattle.command_words.specs.Commands.{Task, asked, texts};
+ghost use Rattle.fux_port.specs.Written.{appended};
+ghost use Rattle.works.specs.Blame.{Blames, BlamesNoFile, IsUnserved, ServesTask};
+ghost use Rattle.command_words.specs.Commands.{Task, asked, texts, whole_class};
 ghost use Rattle.works.specs.TaskFiles.{name_in, names_in, names_within};
 ghost use Rattle.fux_run.specs.Tellings.{fux_line};
 ghost use Rattle.fux_run.specs.Runs.{EndedBy, EndsAs, EndsUnread, IsDone, IsStopped, result_line, result_status};
 ghost use Rattle.works.specs.Endings.{EndsOn};
+ghost use Rattle.works.specs.Little.{ReadsLittle};
 ghost use Rattle.fux_run.specs.Sinks.{Gets};
 ghost use Rattle.fux_run.specs.Statuses.{code_of};
-ghost use Rattle.works.specs.Works.{AllHave, AreThere, IsReadyFor, Works};
+ghost use Rattle.works.specs.Works.{AllHave, AreThere, IsOfCauses, IsReadyFor, TellsCauses, Works};
 
 use crate::perform::perform;
 use crate::status::Status;
@@ -41,11 +43,12 @@ pub fn run<F: Shelf, K: Sink, E: Sink, R: Threads + Sync>(
     ensures form { asked (texts words.now) ≡ None → result ≢ code_of Status.OutOfMemory
         → result ≡ code_of Status.Usage }
 
-    // A read failed by the shelf's fault, or a file is missing; the line names it.
+    // A read failed by the shelf's fault, or a file is missing; the line names it, and the shelf
+    // didn't promise each read of it.
     ensures unreadable { (task : Task) → asked (texts words.now) ≡ Some task
         → result ≡ code_of Status.Unreadable
-        → EndsUnread task (F.files shelf.old) (Rose (F.faults shelf.old) (F.faults shelf.new))
-        (Gets E.written E.faults E.serves err.old err.new) }
+        → EndsUnread task (F.files shelf.old) (F.serves shelf.old)
+        (Rose (F.faults shelf.old) (F.faults shelf.new)) (Gets E.written E.faults E.serves err.old err.new) }
     ensures missing { (task : Task) → asked (texts words.now) ≡ Some task
         → (name : List ℕ) → Contains (names_in task) name → IsMissing (F.files shelf.old) name
         → result ≢ code_of Status.OutOfMemory → result ≡ code_of Status.Unreadable }
@@ -73,6 +76,14 @@ pub fn run<F: Shelf, K: Sink, E: Sink, R: Threads + Sync>(
         (EndsAs (name_in task) result (Fails K.faults K.serves out.old out.new) (K.written out.old)
         (K.written out.new) (Gets E.written E.faults E.serves err.old err.new)) }
 
+    // The report of a class in which each name has its place tells of a file that it can't be read
+    // only where a read failed by the shelf's fault, or the file is missing.
+    ensures causes { (list : List ℕ) → (lesson : Option (List ℕ)) → asked (texts words.now)
+        ≡ Some (whole_class list lesson) → IsDone result
+        → TellsCauses list lesson (F.files shelf.old)
+        (Rose (F.faults shelf.old) (F.faults shelf.new))
+        (λ told. K.written out.new ≡ appended (K.written out.old) told.bytes) }
+
     // Where nothing fails, the work is done or a file refused.
     ensures complete { (task : Task) → asked (texts words.now) ≡ Some task → (bytes : List (List ℕ))
         → AllHave (F.files shelf.old) (names_in task) bytes → AreThere (F.files shelf.old)
@@ -92,6 +103,12 @@ pub fn run<F: Shelf, K: Sink, E: Sink, R: Threads + Sync>(
     ensures memory_line { result ≡ code_of Status.OutOfMemory
         → Gets E.written E.faults E.serves err.old err.new (fux_line (codes "out of memory")) }
 
+    // Of each file of the command at most a byte beyond its limit is read, and of words of no form
+    // nothing.
+    ensures little { (task : Task) → asked (texts words.now) ≡ Some task
+        → ReadsLittle task (F.files shelf.old) (F.given shelf.old) (F.given shelf.new) }
+    ensures unread { asked (texts words.now) ≡ None → F.given shelf.new ≡ F.given shelf.old }
+
     ensures files { F.files shelf.new ≡ F.files shelf.old }
 {
     let ended = outcome(rt, alloc, words, shelf, out);
@@ -110,6 +127,14 @@ fn outcome<'a, F: Shelf, K: Sink, R: Threads + Sync>(
         shelf.old shelf.new out.old out.new result }
     ensures served { (task : Task) → asked (texts words.now) ≡ Some task
         → ServesTask (F.serves shelf.old) (F.files shelf.old) task → IfErr result BlamesNoFile }
+    ensures blamed { (task : Task) → asked (texts words.now) ≡ Some task
+        → IfErr result (Blames (IsUnserved (F.serves shelf.old) (F.files shelf.old) task)) }
+    ensures little { (task : Task) → asked (texts words.now) ≡ Some task
+        → ReadsLittle task (F.files shelf.old) (F.given shelf.old) (F.given shelf.new) }
+    ensures unread { asked (texts words.now) ≡ None → F.given shelf.new ≡ F.given shelf.old }
+    ensures causes { (task : Task) → asked (texts words.now) ≡ Some task
+        → IsOfCauses task (F.files shelf.old) (Rose (F.faults shelf.old) (F.faults shelf.new))
+        (λ verdict told. K.written out.new ≡ appended (K.written out.old) told.bytes) result }
     ensures files { F.files shelf.new ≡ F.files shelf.old }
 {
     match parse(alloc, words) {

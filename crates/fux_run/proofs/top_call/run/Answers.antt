@@ -1,9 +1,9 @@
 use Rattle.fux_port.specs.Counts.{Rose}
 use Rattle.fux_port.specs.Promises.{Fails}
-use Rattle.command_words.specs.Commands.{asked, texts}
+use Rattle.command_words.specs.Commands.{asked, texts, whole_class}
 use Rattle.fux_run.specs.Sinks.{Gets}
 use Rattle.fux_run.proofs.BlameStatuses.{reads_status}
-use Rattle.fux_run.proofs.RunLemmas.{RanAs, of_task, ran_complete, ran_missing, ran_missing_within, ran_unreadable, ran_works, run_form, run_known, run_memory_line, run_silent, run_unwritable, run_unwritten, run_usage, run_usage_line}
+use Rattle.fux_run.proofs.RunLemmas.{RanAs, of_task, ran_causes, ran_complete, ran_missing, ran_missing_within, ran_unreadable, ran_works, run_form, run_known, run_memory_line, run_silent, run_unwritable, run_unwritten, run_usage, run_usage_line}
 use Rattle.fux_run.proofs.SinkLemmas.{gets_none}
 use Rattle.fux_run.proofs.top_call.run.Goals as goal
 use Rattle.fux_run.proofs.top_call.run.Goals.{Joined-ended}
@@ -32,7 +32,8 @@ returns-clause-form g c = run_form _ _ _ _ _ _ _ _ _ (ran g c)
 
 pub returns-clause-unreadable : goal.returns-clause-unreadable
 returns-clause-unreadable g c =
-    λ task is four. ran_unreadable task _ _ _ _ _ _ _ _ (of_task _ _ _ _ _ _ _ _ task _ is (ran g c)) four
+    λ task is four. ran_unreadable task _ _ _ _ _ _ _ _ _ (of_task _ _ _ _ _ _ _ _ task _ is (ran g c))
+    (c.outcome-ended.ensures.blamed task is) four
 
 pub returns-clause-missing : goal.returns-clause-missing
 returns-clause-missing g c = λ task is name one missing room. ran_missing task _ _ _ _ _ _ _ _
@@ -78,3 +79,8 @@ returns-clause-served g c = λ task is promised. reads_status c.outcome-ended.re
 pub returns-clause-taken : goal.returns-clause-taken
 returns-clause-taken g c = λ all five.
     let cut = (run_unwritable _ _ _ _ _ _ _ _ _ (ran g c) five).0 in cut.1.1 (all cut.0)
+
+pub returns-clause-causes : goal.returns-clause-causes
+returns-clause-causes g c = λ list lesson is done. ran_causes list lesson _ _ _ c.outcome-ended.result c.code.result
+    (rw c.conclude.ensures.status at c.code.ensures) done
+    (c.outcome-ended.ensures.causes (whole_class list lesson) is)
