@@ -36,10 +36,10 @@ EndsAs name code Cut old new Complains work =
 -- a run ends as one whose file cannot be read, and of which not each read was promised
 pub record EndsUnread (task : Task) (files : Files) (serves : Reads) (rose : Type 0) (Complains : List ℕ → Type 0) : Type 0
   where
-  pub name : List ℕ
-  pub unread : IsUnreadOf task files rose name
-  pub unserved : IsUnserved serves files task name
-  pub told : Complains (fux_line (codes "cannot read " ++ name))
+    pub name : List ℕ
+    pub unread : IsUnreadOf task files rose name
+    pub unserved : IsUnserved serves files task name
+    pub told : Complains (fux_line (codes "cannot read " ++ name))
 
 -- the statuses of a run that wrote its output
 abbrev pub IsDone : ℕ → Type 0

@@ -295,10 +295,10 @@ returns-in_ok-weights-in-Check-clause-blamed g c =
       reads_on (files c.args.shelf.now) name certificate sheet text weights
           (λ bytes sheets. ChecksText (files c.read_weights-in-Check.new.shelf) certificate sheets bytes) _
           c.check_texts.result (
-        c.in_ok-text-in-Check.ensures.reads,
-        read_same 65536 (files c.args.shelf.now) _ (as_list sheet) (as_list weights)
-            c.in_ok-text-in-Check.ensures.files c.in_ok-weights-in-Check.ensures.reads,
-      ) c.check_texts.ensures.checks is,
+            c.in_ok-text-in-Check.ensures.reads,
+            read_same 65536 (files c.args.shelf.now) _ (as_list sheet) (as_list weights)
+                c.in_ok-text-in-Check.ensures.files c.in_ok-weights-in-Check.ensures.reads,
+          ) c.check_texts.ensures.checks is,
       λ promised. subst (λ answer. IfErr answer IsReadWithin) is (c.check_texts.ensures.served
           (whole_kept (serves c.read_content-in-Check.new.shelf) (serves c.read_weights-in-Check.new.shelf) certificate
           1073741824 c.in_ok-weights-in-Check.ensures.serving
