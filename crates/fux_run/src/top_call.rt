@@ -48,7 +48,8 @@ pub fn run<F: Shelf, K: Sink, E: Sink, R: Threads + Sync>(
     ensures unreadable { (task : Task) → asked (texts words.now) ≡ Some task
         → result ≡ code_of Status.Unreadable
         → EndsUnread task (F.files shelf.old) (F.serves shelf.old)
-        (Rose (F.faults shelf.old) (F.faults shelf.new)) (Gets E.written E.faults E.serves err.old err.new) }
+        (Rose (F.faults shelf.old) (F.faults shelf.new))
+        (Gets E.written E.faults E.serves err.old err.new) }
     ensures missing { (task : Task) → asked (texts words.now) ≡ Some task
         → (name : List ℕ) → Contains (names_in task) name → IsMissing (F.files shelf.old) name
         → result ≢ code_of Status.OutOfMemory → result ≡ code_of Status.Unreadable }

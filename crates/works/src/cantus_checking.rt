@@ -43,8 +43,9 @@ pub fn checked_cantus<'a, F: Shelf>(
         → IfErr result BlamesNoFile }
     ensures blamed { IfErr result (Blames (IsUnserved (F.serves shelf.old) (F.files shelf.old)
         (check_cantus wanted certificate.entry.now (sheet_named sheet.entry)))) }
-    ensures little { ReadsLittle (check_cantus wanted certificate.entry.now (sheet_named sheet.entry))
-        (F.files shelf.old) (F.given shelf.old) (F.given shelf.new) }
+    ensures little { ReadsLittle
+        (check_cantus wanted certificate.entry.now (sheet_named sheet.entry)) (F.files shelf.old)
+        (F.given shelf.old) (F.given shelf.new) }
     ensures files { F.files shelf.new ≡ F.files shelf.old }
 {
     let weights = read_weights(alloc, shelf, sheet)?;

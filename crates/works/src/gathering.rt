@@ -57,7 +57,8 @@ fn say_names<F: Shelf>(
     shelf: &mut F,
 ) -> Result<WholeReport, Memory>
     requires { ForSome lesson (λ exercise. IsValid exercise.now) }
-    ensures said { IfOk result (AreSaid (F.files shelf.old) (Rose (F.faults shelf.old) (F.faults shelf.new))
+    ensures said { IfOk result (AreSaid (F.files shelf.old)
+        (Rose (F.faults shelf.old) (F.faults shelf.new))
         (option_copied lesson.entry) (map string_bytes names.now)) }
     ensures little { F.given shelf.new ≤ F.given shelf.old + 65537 * length names.now }
     ensures files { F.files shelf.new ≡ F.files shelf.old }
