@@ -18,6 +18,7 @@ use Rattle.works.specs.declared.work.Verdict.TheVariants.{Favorable}
 use Rattle.works.specs.Composed.{TellsFound}
 use Rattle.works.specs.Invented.{TellsCantus, cantus_answer, cantus_line, plan_of}
 use Rattle.works.specs.ReadBack.{IsCantusRead, NewCantusIsRead, with_voice}
+use Rattle.works.specs.Sheets.{prices_in_use}
 use Rattle.works.specs.Told.{TellsSought}
 
 joined : (word : List ℕ) (words : List (List ℕ)) → join_with_byte 32 (word ∷ words) ≡ word ++ spaced words

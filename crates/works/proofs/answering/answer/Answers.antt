@@ -77,7 +77,9 @@ returns-in_err-given-clause-blamed g c =
     )))
 
 pub returns-clause-blamed : goal.returns-clause-blamed
-returns-clause-blamed g c = result_blames_none _ c.said.result c.said.ensures.reads
+returns-clause-blamed g c =
+    result_blames_none (IsUnserved (g.F.Shelf.serves c.args.shelf.now) (g.F.Shelf.files c.args.shelf.now)
+    (mark_answer c.args.name.now c.args.lesson.now)) c.said.result c.said.ensures.reads
 
 pub returns-in_err-text-clause-little : goal.returns-in_err-text-clause-little
 returns-in_err-text-clause-little g c = inl (omega (arith, c.read_content.ensures.little))

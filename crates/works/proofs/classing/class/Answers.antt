@@ -63,7 +63,9 @@ returns-in-Ok-clause-blamed g c =
     c.report_files.ensures.blamed
 
 pub returns-in-Err-At-clause-blamed : goal.returns-in-Err-At-clause-blamed
-returns-in-Err-At-clause-blamed g c = blames_none _ c.refused.result c.refused.ensures.reads
+returns-in-Err-At-clause-blamed g c =
+    blames_none (IsUnserved (g.F.Shelf.serves c.args.shelf.now) (g.F.Shelf.files c.args.shelf.now)
+    (class_report c.args.list.now)) c.refused.result c.refused.ensures.reads
 
 pub returns-in_err-text-clause-little : goal.returns-in_err-text-clause-little
 returns-in_err-text-clause-little g c = inl (omega (arith, c.read_content.ensures.little))
@@ -77,6 +79,3 @@ returns-in-Ok-clause-little g c =
 
 pub returns-in-Err-At-clause-little : goal.returns-in-Err-At-clause-little
 returns-in-Err-At-clause-little g c = inl (omega (arith, c.read_content.ensures.little))
-
-pub returns-in-Err-Memory-clause-little : goal.returns-in-Err-Memory-clause-little
-returns-in-Err-Memory-clause-little g c = inl (omega (arith, c.read_content.ensures.little))

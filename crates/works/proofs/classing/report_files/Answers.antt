@@ -35,5 +35,6 @@ returns-in-Err-At-clause-blamed g c =
     let names = map string_bytes c.args.names.items in
     let serves = g.F.Shelf.serves c.args.shelf.now in
     let known = rw (c.in-Err-At.field-0-is, c.deref.ensures.value) at c.in-Err-At.ensures.reads in
-    place_blames serves names c.in-Err-At.place c.unreadable.result known.0 c.unreadable.ensures
+    place_blames serves names c.in-Err-At.place c.unreadable.result known.0
+    (rw c.in-Err-At.field-0-is at c.unreadable.ensures)
     (rw (c.in-Err-At.field-0-is, c.deref.ensures.value) at c.in-Err-At.ensures.blamed)

@@ -102,10 +102,12 @@ returns-in_err-given-clause-blamed g c =
     (whole_class c.args.list.now (sheet_named c.args.lesson))) _ _
     (g.F.Shelf.serves c.args.shelf.now) (g.F.Shelf.serves c.read_content.new.shelf) (sheet_named c.args.lesson) _
     c.in_err-given.ensures.reads c.in_ok-text.ensures.serving c.in_err-given.ensures.served
-    (λ name one. inl (served_later _ _ c.args.list.now (as_list (sheet_named c.args.lesson)) name one)))
+    (λ name one. inl (served_later (g.F.Shelf.serves c.args.shelf.now) 65536 c.args.list.now (as_list (sheet_named c.args.lesson)) name one)))
 
 pub returns-clause-blamed : goal.returns-clause-blamed
-returns-clause-blamed g c = result_blames_none _ c.said.result c.said.ensures.reads
+returns-clause-blamed g c =
+    result_blames_none (IsUnserved (g.F.Shelf.serves c.args.shelf.now) (g.F.Shelf.files c.args.shelf.now)
+    (whole_class c.args.list.now (sheet_named c.args.lesson))) c.said.result c.said.ensures.reads
 
 pub returns-in_err-text-clause-little : goal.returns-in_err-text-clause-little
 returns-in_err-text-clause-little g c = inl (omega (arith, c.read_content.ensures.little))

@@ -72,10 +72,12 @@ returns-in_err-weights-clause-blamed g c =
     (find_canon c.args.name.now (sheet_named c.args.sheet) c.args.search)) _ _
     (g.F.Shelf.serves c.args.shelf.now) (g.F.Shelf.serves c.read_content.new.shelf) (sheet_named c.args.sheet) _
     c.in_err-weights.ensures.reads c.in_ok-text.ensures.serving c.in_err-weights.ensures.served
-    (λ name one. inl (served_later _ _ c.args.name.now (as_list (sheet_named c.args.sheet)) name one)))
+    (λ name one. inl (served_later (g.F.Shelf.serves c.args.shelf.now) 65536 c.args.name.now (as_list (sheet_named c.args.sheet)) name one)))
 
 pub returns-clause-blamed : goal.returns-clause-blamed
-returns-clause-blamed g c = result_blames_none _ c.said.result c.said.ensures.reads
+returns-clause-blamed g c =
+    result_blames_none (IsUnserved (g.F.Shelf.serves c.args.shelf.now) (g.F.Shelf.files c.args.shelf.now)
+    (find_canon c.args.name.now (sheet_named c.args.sheet) c.args.search)) c.said.result c.said.ensures.reads
 
 pub returns-in_err-text-clause-little : goal.returns-in_err-text-clause-little
 returns-in_err-text-clause-little g c = inl (omega (arith, c.read_content.ensures.little))

@@ -42,7 +42,9 @@ returns-in_err-weights-clause-blamed g c =
     (λ name one. inl one))
 
 pub returns-clause-blamed : goal.returns-clause-blamed
-returns-clause-blamed g c = result_blames_none _ c.said.result c.said.ensures.reads
+returns-clause-blamed g c =
+    result_blames_none (IsUnserved (g.F.Shelf.serves c.args.shelf.now) (g.F.Shelf.files c.args.shelf.now)
+    (find_cantus c.args.wanted (sheet_named c.args.sheet) c.args.search)) c.said.result c.said.ensures.reads
 
 pub returns-in_err-weights-clause-little : goal.returns-in_err-weights-clause-little
 returns-in_err-weights-clause-little g c = inl (omega (arith, c.read_weights.ensures.little))

@@ -194,7 +194,7 @@ returns-in_err-weights-in-OnExercise-clause-blamed g c =
     (g.F.Shelf.serves c.args.shelf.now) (g.F.Shelf.serves c.read_content.new.shelf) sheet _
     c.in_err-weights-in-OnExercise.ensures.reads c.in_ok-text-in-OnExercise.ensures.serving
     c.in_err-weights-in-OnExercise.ensures.served
-    (λ name one. inl (served_later _ _ c.in-OnExercise.name.now (as_list sheet) name one)))
+    (λ name one. inl (served_later (g.F.Shelf.serves c.args.shelf.now) 65536 c.in-OnExercise.name.now (as_list sheet) name one)))
 
 pub returns-in_err-text-in-Check-clause-blamed : goal.returns-in_err-text-in-Check-clause-blamed
 returns-in_err-text-in-Check-clause-blamed g c =
@@ -213,7 +213,7 @@ returns-in_err-weights-in-Check-clause-blamed g c =
     (g.F.Shelf.serves c.args.shelf.now) (g.F.Shelf.serves c.read_content-in-Check.new.shelf) sheet _
     c.in_err-weights-in-Check.ensures.reads c.in_ok-text-in-Check.ensures.serving
     c.in_err-weights-in-Check.ensures.served
-    (λ name one. inl (served_later _ _ c.in-Check.name.now (as_list sheet) name one)))
+    (λ name one. inl (served_later (g.F.Shelf.serves c.args.shelf.now) 65536 c.in-Check.name.now (as_list sheet) name one)))
 
 pub returns-in_err-text-in-Explain-clause-blamed : goal.returns-in_err-text-in-Explain-clause-blamed
 returns-in_err-text-in-Explain-clause-blamed g c =
@@ -232,16 +232,24 @@ returns-in_err-file-in-FromSmf-clause-blamed g c =
     c.in_err-file-in-FromSmf.ensures.reads c.in_err-file-in-FromSmf.ensures.served (λ denied. inl ((0, omega arith, refl), denied)))
 
 pub returns-in_ok-weights-in-OnExercise-clause-blamed : goal.returns-in_ok-weights-in-OnExercise-clause-blamed
-returns-in_ok-weights-in-OnExercise-clause-blamed g c = result_blames_none _ c.said.result c.said.ensures.reads
+returns-in_ok-weights-in-OnExercise-clause-blamed g c =
+    rw c.in-OnExercise.is (result_blames_none (IsUnserved (g.F.Shelf.serves c.args.shelf.now) (g.F.Shelf.files c.args.shelf.now)
+    (on_exercise c.in-OnExercise.name.now (sheet_named c.in-OnExercise.sheet) c.in-OnExercise.job)) c.said.result c.said.ensures.reads)
 
 pub returns-in_ok-text-in-Explain-clause-blamed : goal.returns-in_ok-text-in-Explain-clause-blamed
-returns-in_ok-text-in-Explain-clause-blamed g c = result_blames_none _ c.said-in-Explain.result c.said-in-Explain.ensures.reads
+returns-in_ok-text-in-Explain-clause-blamed g c =
+    rw c.in-Explain.is (result_blames_none (IsUnserved (g.F.Shelf.serves c.args.shelf.now) (g.F.Shelf.files c.args.shelf.now)
+    (explain c.in-Explain.name.now c.in-Explain.subject)) c.said-in-Explain.result c.said-in-Explain.ensures.reads)
 
 pub returns-in_ok-file-in-FromSmf-clause-blamed : goal.returns-in_ok-file-in-FromSmf-clause-blamed
-returns-in_ok-file-in-FromSmf-clause-blamed g c = result_blames_none _ c.said-in-FromSmf.result c.said-in-FromSmf.ensures.reads
+returns-in_ok-file-in-FromSmf-clause-blamed g c =
+    rw c.in-FromSmf.is (result_blames_none (IsUnserved (g.F.Shelf.serves c.args.shelf.now) (g.F.Shelf.files c.args.shelf.now)
+    (fromsmf c.in-FromSmf.name.now c.in-FromSmf.head)) c.said-in-FromSmf.result c.said-in-FromSmf.ensures.reads)
 
 pub returns-in-Drill-clause-blamed : goal.returns-in-Drill-clause-blamed
-returns-in-Drill-clause-blamed g c = result_blames_none _ c.said-in-Drill.result c.said-in-Drill.ensures.reads
+returns-in-Drill-clause-blamed g c =
+    rw c.in-Drill.is (result_blames_none (IsUnserved (g.F.Shelf.serves c.args.shelf.now) (g.F.Shelf.files c.args.shelf.now)
+    (drill c.in-Drill.number c.in-Drill.by_sharper)) c.said-in-Drill.result c.said-in-Drill.ensures.reads)
 
 pub returns-in-OnMixed-clause-blamed : goal.returns-in-OnMixed-clause-blamed
 returns-in-OnMixed-clause-blamed g c = rw c.in-OnMixed.is c.on_mixed.ensures.blamed
