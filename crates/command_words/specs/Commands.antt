@@ -14,7 +14,7 @@ use Rattle.text_lines.specs.Numbers.{number_within}
 use Rattle.command_words.specs.declared.command.Command.{Command}
 use Rattle.command_words.specs.declared.command.Command.TheVariants.{Certify, CertifyCantus, Make, WholeClass}
 use Rattle.command_words.specs.declared.command.Job.{Job}
-use Rattle.command_words.specs.declared.command.Job.TheVariants.{Compose, Best, Mark, Weigh, Cantus, Print, ToSmf, ToXml, MarkXml, Picture, MarkPicture, ComposeNth}
+use Rattle.command_words.specs.declared.command.Job.TheVariants.{Compose, Best, Mark, Weigh, Cantus, CantusCharges, Print, ToSmf, ToXml, MarkXml, Picture, MarkPicture, ComposeNth}
 use Rattle.command_words.specs.declared.command.MixedJob.{MixedJob}
 use Rattle.command_words.specs.declared.command.MixedJob.TheVariants as mixed
 use Rattle.command_words.specs.declared.command.Making.{Making}
@@ -236,6 +236,14 @@ marking_of name (Some lesson) = mark_answer name lesson
 abbrev pub mark_asked : List Row → Option Task
 mark_asked rows = first_of (codes "EX") rows >>= λ name. Some (marking_of name (first_of (codes "lesson") rows))
 
+-- the marks of a cantus firmus alone, or with what it pays over a sheet
+abbrev pub cantus_of : Text → Option Text → Task
+cantus_of name None = on_exercise name None Cantus
+cantus_of name (Some sheet) = on_exercise name (Some sheet) CantusCharges
+
+abbrev pub cantus_asked : List Row → Option Task
+cantus_asked rows = first_of (codes "EX") rows >>= λ name. Some (cantus_of name (first_of (codes "sheet") rows))
+
 -- marking a class by itself; or by a lesson or going on, whatever its files are
 abbrev pub classing_of : Text → Option Text → Bool → Task
 classing_of list None false = class_report list
@@ -400,7 +408,7 @@ asks verb.Certify = certify_asked
 asks verb.Check = check_asked
 asks verb.Mark = mark_asked
 asks verb.Explain = explain_asked
-asks verb.Cantus = job_asked Cantus
+asks verb.Cantus = cantus_asked
 asks verb.Print = print_asked
 asks verb.ToSmf = job_asked ToSmf
 asks verb.FromSmf = from_smf_asked

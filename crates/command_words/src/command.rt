@@ -30,6 +30,8 @@ pub enum Job {
     Weigh { against: Option<u32> },
     /// The marks of its cantus firmus.
     Cantus,
+    /// These, and what its cantus firmus pays for.
+    CantusCharges,
     /// The printed score of its setting, or without one of the sheet to hand out; in systems of at
     /// most so many columns of a terminal, where a number is given.
     Print { wrap: Option<u32> },

@@ -5,7 +5,7 @@ ghost use Rattle.clap.specs.Words.{first_of, found_of, rows_of};
 ghost use Rattle.fux_text.specs.Names.{mode_named};
 ghost use Rattle.smf_score.specs.Heads.{IsHead};
 ghost use Rattle.text_lines.specs.Numbers.{number_within};
-ghost use Rattle.command_words.specs.Commands.{AreNamed, HasHead, HasMidiHead, IsNamedSubject, IsWanted, against_in, asks, before_in, before_nth, best_asked, budget_in, canon_asked, certify_asked, certify_cantus_asked, check_asked, check_cantus_asked, class_asked, classing_of, compose_asked, composing, drill_asked, explain_asked, form_in, from_smf_asked, head_in, is_item, is_set, job_asked, making_task, mark_asked, mark_mixed_asked, mark_picture_asked, mark_xml_asked, mark_xml_with, marked_picture_with, marking_of, mixed_asked, named_in, new_cantus_asked, number_at, picture_asked, print_asked, said_of, search_in, subject_in, task_of, wanted_in, weigh_asked, weighing_with, wrap_in};
+ghost use Rattle.command_words.specs.Commands.{AreNamed, HasHead, HasMidiHead, IsNamedSubject, IsWanted, against_in, asks, before_in, before_nth, best_asked, budget_in, canon_asked, cantus_asked, cantus_of, certify_asked, certify_cantus_asked, check_asked, check_cantus_asked, class_asked, classing_of, compose_asked, composing, drill_asked, explain_asked, form_in, from_smf_asked, head_in, is_item, is_set, job_asked, making_task, mark_asked, mark_mixed_asked, mark_picture_asked, mark_xml_asked, mark_xml_with, marked_picture_with, marking_of, mixed_asked, named_in, new_cantus_asked, number_at, picture_asked, print_asked, said_of, search_in, subject_in, task_of, wanted_in, weigh_asked, weighing_with, wrap_in};
 
 use crate::command::{Command, Job, Making, MixedJob, Named, Search, Subject, Wanted};
 use crate::verbs::Verb;
@@ -343,6 +343,29 @@ fn mark_asked<'a>(matches: &ArgMatches<'a>) -> Option<Command<'a>>
     Some(Command::Make(marking_of(name, lesson)))
 }
 
+/// The marks of the cantus firmus of a file alone, or with what it pays over a sheet.
+fn cantus_of<'a>(name: &'a str, sheet: Option<&'a str>) -> Making<'a>
+    ensures asked { making_task result ≡ cantus_of name.entry.now (option_map (λ text. text.now)
+        sheet.entry) }
+    ensures head { HasMidiHead result }
+{
+    let job = match sheet {
+        None => Job::Cantus,
+        Some(_) => Job::CantusCharges,
+    };
+    Making::OnExercise { name, sheet, job }
+}
+
+/// `cantus`, on the exercise of a file.
+fn cantus_asked<'a>(matches: &ArgMatches<'a>) -> Option<Command<'a>>
+    ensures asked { option_map task_of result ≡ cantus_asked (rows_of (found_of matches.now)) }
+    ensures head { IfSome result HasHead }
+{
+    let name = value(matches, "EX")?;
+    let sheet = value(matches, "sheet");
+    Some(Command::Make(cantus_of(name, sheet)))
+}
+
 /// Marking a class by itself; or by a lesson or going on, whatever its files are.
 fn classing_of<'a>(list: &'a str, lesson: Option<&'a str>, going_on: bool) -> Command<'a>
     ensures asked { task_of result
@@ -670,7 +693,7 @@ pub fn asked_of<'a>(verb: Verb, matches: &ArgMatches<'a>) -> Option<Command<'a>>
         Verb::Check => check_asked(matches),
         Verb::Mark => mark_asked(matches),
         Verb::Explain => explain_asked(matches),
-        Verb::Cantus => job_asked(matches, Job::Cantus),
+        Verb::Cantus => cantus_asked(matches),
         Verb::Print => print_asked(matches),
         Verb::ToSmf => job_asked(matches, Job::ToSmf),
         Verb::FromSmf => from_smf_asked(matches),

@@ -19,7 +19,7 @@ pub enum Verb {
     Mark,
     /// What is wrong with a text or its setting.
     Explain,
-    /// The marks of a cantus firmus.
+    /// The marks of a cantus firmus, and what it pays for.
     Cantus,
     /// The printed score of a setting, or of the sheet to hand out.
     Print,
@@ -173,7 +173,7 @@ impl Verb {
             Verb::Check => ("check", &[Part::Exercise, Part::Certificate, Part::Sheet]),
             Verb::Mark => ("mark", &[Part::Exercise, Part::Lesson]),
             Verb::Explain => ("explain", &[Part::File, Part::MayWith, Part::CantusAlone]),
-            Verb::Cantus => ("cantus", &[Part::Exercise]),
+            Verb::Cantus => ("cantus", &[Part::Exercise, Part::Sheet]),
             Verb::Print => ("print", &[Part::Exercise, Part::Wrap]),
             Verb::ToSmf => ("tosmf", &[Part::Exercise]),
             Verb::FromSmf => (

@@ -17,6 +17,7 @@ pub mod Invented
 pub mod Listed
 pub mod Little
 pub mod Marked
+pub mod MarkedCantus
 pub mod Mixed
 pub mod Played
 pub mod ReadBack

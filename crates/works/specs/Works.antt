@@ -15,7 +15,8 @@ use Rattle.works.specs.declared.work.Verdict.TheVariants.{Spent}
 use Rattle.works.specs.declared.work.Stop.{Stop}
 use Rattle.works.specs.declared.work.Stop.TheVariants.{Refused, Memory}
 use Rattle.command_words.specs.declared.command.Job.{Job}
-use Rattle.command_words.specs.declared.command.Job.TheVariants.{Compose, Best, Mark, Weigh, Cantus, Print, ToSmf, ToXml, MarkXml, Picture, MarkPicture, ComposeNth}
+use Rattle.command_words.specs.declared.command.Job.TheVariants.{Compose, Best, Mark, Weigh, Cantus, CantusCharges, Print, ToSmf, ToXml, MarkXml, Picture, MarkPicture, ComposeNth}
+use Rattle.cantus_prices.specs.declared.prices.PricedSheet.{PricedSheet}
 use Rattle.penalty_sheet.specs.declared.sheet.Sheet.{Sheet}
 use Rattle.works.specs.Answered.{MarksAnswer}
 use Rattle.works.specs.CantusCertified.{MakesCantusCertificate}
@@ -33,33 +34,40 @@ use Rattle.works.specs.Explained.{Explains}
 use Rattle.works.specs.Imitated.{MakesCanon}
 use Rattle.works.specs.Invented.{MakesCantus}
 use Rattle.works.specs.Marked.{Marks, CantusMarks}
+use Rattle.works.specs.MarkedCantus.{ChargesCantus}
 use Rattle.works.specs.Mixed.{MakesMixed}
 use Rattle.works.specs.Played.{ReadsMidi}
 use Rattle.works.specs.Rendered.{MarksPicture, MarksXml, Pictures, Prints, WritesSmf, WritesXml}
 use Rattle.works.specs.Searched.{IsNarrow}
-use Rattle.works.specs.Sheets.{OnSheet, sheet_said}
+use Rattle.works.specs.Sheets.{OnSheet, prices_in_use, sheet_said}
 use Rattle.works.specs.Texts.{Work, OnText}
 use Rattle.works.specs.WholeClasses.{ReportsWhole}
 use Rattle.works.specs.Told.{ComposesNth}
 
--- a job makes this of an exercise, over the sheet in use
-abbrev pub MakesOf : Job → Sheet → Exercise → Work → Type 0
-MakesOf (Compose budget) sheet ex = Composes budget sheet ex
-MakesOf (Best budget) sheet ex = ComposesSharply budget sheet ex
-MakesOf (ComposeNth before budget) sheet ex = ComposesNth before budget sheet ex
-MakesOf Mark sheet ex = Marks ex
-MakesOf (Weigh against) sheet ex = Weighs against sheet ex
-MakesOf Cantus sheet ex = CantusMarks ex
-MakesOf (Print wrap) sheet ex = Prints wrap ex
-MakesOf ToSmf sheet ex = WritesSmf ex
-MakesOf ToXml sheet ex = WritesXml ex
-MakesOf MarkXml sheet ex = MarksXml ex ex
-MakesOf (Picture wanted) sheet ex = Pictures wanted sheet ex
-MakesOf MarkPicture sheet ex = MarksPicture ex ex
+-- a job makes this of an exercise, over the sheet in use, with its prices
+abbrev pub MakesOf : Job → PricedSheet → Exercise → Work → Type 0
+MakesOf (Compose budget) priced ex = Composes budget priced.sheet ex
+MakesOf (Best budget) priced ex = ComposesSharply budget priced.sheet ex
+MakesOf (ComposeNth before budget) priced ex = ComposesNth before budget priced.sheet ex
+MakesOf Mark priced ex = Marks ex
+MakesOf (Weigh against) priced ex = Weighs against priced.sheet ex
+MakesOf Cantus priced ex = CantusMarks ex
+MakesOf CantusCharges priced ex = ChargesCantus priced ex
+MakesOf (Print wrap) priced ex = Prints wrap ex
+MakesOf ToSmf priced ex = WritesSmf ex
+MakesOf ToXml priced ex = WritesXml ex
+MakesOf MarkXml priced ex = MarksXml ex ex
+MakesOf (Picture wanted) priced ex = Pictures wanted priced.sheet ex
+MakesOf MarkPicture priced ex = MarksPicture ex ex
+
+-- the sheet in use, with the prices in use
+abbrev pub with_prices : List (List ℕ) → Sheet → PricedSheet
+with_prices sheets sheet = record { sheet = sheet; prices = prices_in_use sheets }
 
 -- a job makes this of the text of an exercise, and of the file of a sheet where one is given
 abbrev pub MakesOfText : Job → List (List ℕ) → List ℕ → Work → Type 0
-MakesOfText job sheets text = OnText (λ ex. OnSheet (λ sheet. MakesOf job sheet ex) sheets) text
+MakesOfText job sheets text =
+    OnText (λ ex. OnSheet (λ sheet. MakesOf job (with_prices sheets sheet) ex) sheets) text
 
 -- work that doesn't tell that the budget was spent
 abbrev pub IsUnspent : Work → Type 0

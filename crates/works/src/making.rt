@@ -25,20 +25,20 @@ use crate::exercise::{LONGEST_TEXT, exercise_of};
 use crate::explaining::explain;
 use crate::imitating::canon;
 use crate::inventing::new_cantus;
-use crate::marking::{cantus, mark};
+use crate::marking::{cantus, cantus_charged, mark};
 use crate::mixing::on_mixed;
 use crate::numbering::compose_nth;
 use crate::playing::{LONGEST_MIDI, from_smf};
 use crate::refusal::{Refusal, refusal_text};
 use crate::rendering::{mark_picture, mark_xml, print, to_picture, to_smf, to_xml};
-use crate::weighing::sheet_of;
+use crate::weighing::{priced_of, sheet_of};
 use crate::work::{Halt, Output, Stop, Unmade, Verdict};
+use cantus_prices::PricedSheet;
 use class_marker::Text;
 use command_words::{Job, Making};
 use fux_grid::Exercise;
 use fux_pitch::Memory;
 use fux_port::Shelf;
-use penalty_sheet::Sheet;
 use std::alloc::Global;
 use std::thread::Threads;
 
@@ -151,8 +151,8 @@ fn of_texts<R: Threads + Sync>(
         result) }
 {
     let exercise = exercise_of(alloc, text)?;
-    let sheet = sheet_of(alloc, weights)?;
-    of_exercise(rt, alloc, &exercise, &sheet, job)
+    let priced = priced_of(alloc, weights)?;
+    of_exercise(rt, alloc, &exercise, &priced, job)
 }
 
 /// The verdict on the certificate in a file for the exercise of a text, over the file of a sheet
@@ -178,17 +178,18 @@ fn check_texts<F: Shelf, R: Threads + Sync>(
     check(rt, alloc, &exercise, &sheet, shelf, certificate)
 }
 
-/// What a job makes of an exercise, over a sheet of weights.
+/// What a job makes of an exercise, over a sheet with prices.
 fn of_exercise<R: Threads + Sync>(
     rt: &R,
     alloc: Global,
     exercise: &Exercise,
-    sheet: &Sheet,
+    priced: &PricedSheet,
     job: Job,
 ) -> Result<Output, Stop>
     requires { IsValid exercise.now }
-    ensures { Answers (MakesOf job sheet.now exercise.now) result }
+    ensures { Answers (MakesOf job priced.now exercise.now) result }
 {
+    let sheet = &priced.sheet;
     match job {
         Job::Compose { budget } => compose(rt, alloc, exercise, sheet, budget),
         Job::Best { budget } => best(rt, alloc, exercise, sheet, budget),
@@ -198,6 +199,7 @@ fn of_exercise<R: Threads + Sync>(
         Job::Mark => mark(alloc, exercise),
         Job::Weigh { against } => weigh(rt, alloc, exercise, sheet, against),
         Job::Cantus => cantus(alloc, exercise),
+        Job::CantusCharges => cantus_charged(alloc, exercise, priced),
         Job::Print { wrap } => print(alloc, exercise, wrap),
         Job::ToSmf => to_smf(alloc, exercise),
         Job::ToXml => to_xml(alloc, exercise),
