@@ -1,8 +1,7 @@
 -- True claims by lists exclude what refutes a sound head (`sharp_excludes`), so the head of a valid
 -- certificate holds (`sharp_certificate_holds`).
-use Rattle.std.proofs.Common.{◌≡◌, ◌⊎◌, inl, inr, ℕ, ◌+◌, ◌<◌, ◌≤◌, true, false, List, [], ◌∷◌, ◌++◌, Option, Some, None, refl, ap, sym, ◌∙◌, subst, arith, append-nil}
+use Rattle.std.proofs.Common.{◌≡◌, inl, inr, ℕ, ◌+◌, ◌≤◌, true, false, List, [], ◌++◌, Option, Some, None, subst, arith, append-nil}
 use Rattle.std.specs.Prelude.{IsSomeAnd}
-use Rattle.std.specs.List.{AllByRecursion}
 use Rattle.cert_text.specs.declared.answers.CertHead.{CertHead}
 use Rattle.cert_text.specs.declared.answers.CertHead.TheVariants.{Best, Nothing}
 use Rattle.cert_text.specs.declared.claim.Claim.{Claim}
@@ -10,7 +9,7 @@ use Rattle.cert_text.specs.declared.claim.Claim.TheVariants.{Open, Broken, NoCha
 use Rattle.cert_tree.specs.Trees.{Excludes, IsBegunByOne}
 use Rattle.cert_tree.proofs.Shown.{none_refutes_from}
 use Rattle.cert_law.specs.Certificates.{Begins, Holds, IsBetter, IsHeadSound, Refutes, is_open, tree_of}
-use Rattle.cert_law.specs.Claims.{IsNoBetter, IsTrueOf, longer_prefixes}
+use Rattle.cert_law.specs.Claims.{IsNoBetter, longer_prefixes}
 use Rattle.cert_law.specs.WayLaws.{empty_begins}
 use Rattle.cert_law.proofs.TailFacts.{tails_hold}
 use Rattle.cert_law.proofs.Valid.{excludes_refuting, unrefuted_holds}
@@ -23,7 +22,7 @@ use Rattle.fux_grid.proofs.OrderLemmas.{earlier-append, earlier-chained, earlier
 use Rattle.fux_judge.specs.Lawful.{IsLawful}
 use Rattle.fux_judge.specs.Penalties.{penalty_of}
 use Rattle.penalty_sheet.specs.declared.sheet.Sheet.{Sheet}
-use Rattle.price_law.specs.Certificates.{IsFairList, IsFloorOf, IsSharpCertificate, IsSharpTrueOf, sharp_tree}
+use Rattle.price_law.specs.Certificates.{IsFloorOf, IsSharpCertificate, IsSharpTrueOf, sharp_tree}
 use Rattle.price_law.specs.PriceLists.{PriceList, sharp_floor}
 use Rattle.price_law.proofs.ListSums.{sharp_floors}
 

@@ -3,3 +3,4 @@ pub mod Ways
 pub mod ListSums
 pub mod Excluded
 pub mod WebRests
+pub mod TailTruths

@@ -1,5 +1,5 @@
 -- The sums of lists are floors (`list_floors`), and so is the greatest of them (`sharp_floors`).
-use Rattle.std.proofs.Common.{◌≡◌, ℕ, suc, zero, ◌+◌, ◌-◌, ◌*◌, ◌<◌, ◌≤◌, ◌||◌, Bool, true, List, [], ◌∷◌, ◌++◌, Option, Some, None, length, option_map, refl, sym, ap, ◌∙◌, subst, arith, append-nil, length-append}
+use Rattle.std.proofs.Common.{◌≡◌, ℕ, ◌+◌, ◌-◌, ◌*◌, ◌<◌, ◌≤◌, true, List, [], ◌∷◌, ◌++◌, Option, Some, None, length, option_map, refl, sym, ap, ◌∙◌, subst, arith, append-nil}
 use Rattle.std.specs.Prelude.{IfSome, IsSomeAnd, max}
 use Rattle.std.specs.List.{AllByRecursion}
 use Rattle.cert_law.proofs.FloorFacts.{floors_hold}
@@ -25,7 +25,7 @@ use Rattle.priced_floors.specs.Kept.{kept_of, step_of}
 use Rattle.priced_floors.specs.PathLaws.{columns_parted, leaf_lawful, live_step}
 use Rattle.priced_floors.specs.PricedLaws.{breadth_of, settings_are_priced}
 use Rattle.priced_paths.specs.Pricings.{IsPricedStep}
-use Rattle.priced_paths.specs.Tolls.{charged_from, charged_to, has_reached, sum_of}
+use Rattle.priced_paths.specs.Tolls.{charged_from, has_reached, sum_of}
 use Rattle.species_space.specs.Grows.{live_value, paths_grow}
 use Rattle.species_space.specs.Paths.{column_at, columns_on, live_at, prefix_at}
 use Rattle.tree_search.specs.Answer.{IsLeaf}

@@ -1,6 +1,6 @@
 -- A node's number is the least sum of what is left from what is kept at its spot on
 -- (`numbers_are_rests`).
-use Rattle.std.proofs.Common.{◌≡◌, ℕ, zero, suc, ◌+◌, ◌-◌, ◌*◌, ◌<◌, ◌≤◌, ◌==◌, ◌&&◌, ◌||◌, nat_lt, ◌⊎◌, inl, inr, Bool, true, false, List, Option, Some, None, option_map, option_and_then, length, refl, sym, ap, ap₂, subst, ◌∙◌, arith, slice_get, slice_index_or, if◌then◌else◌}
+use Rattle.std.proofs.Common.{◌≡◌, ℕ, zero, suc, ◌+◌, ◌-◌, ◌*◌, ◌<◌, ◌≤◌, ◌==◌, ◌&&◌, ◌||◌, nat_lt, ◌⊎◌, inl, inr, Bool, true, false, List, Option, Some, None, option_map, option_and_then, length, refl, sym, ap, ap₂, subst, ◌∙◌, arith, slice_get, if◌then◌else◌}
 use Rattle.std.specs.Prelude.{IsSomeAnd, min}
 use Rattle.std.proofs.lemmas.Bool.{eq-eqb}
 use Rattle.std.proofs.lemmas.Bool.Decides.{nat_tests}
@@ -13,7 +13,7 @@ use Rattle.priced_paths.specs.declared.web.TheConstants.{MOST_COST}
 use Rattle.priced_paths.specs.declared.web.Web.{Web}
 use Rattle.priced_paths.specs.CaseGraphs.{Case, case_edge, case_ends, case_width, charged_edge, edge_by, is_reached, node_at, nodes_of, spot_of}
 use Rattle.priced_paths.specs.Tolls.{sum_of}
-use Rattle.priced_paths.specs.Webs.{HasSteps, IsEdgeOf, IsWeb, LeadsOn, depth_in, edge_in, labels_in, labels_or}
+use Rattle.priced_paths.specs.Webs.{IsEdgeOf, IsWeb, depth_in, edge_in, labels_in, labels_or}
 use Rattle.priced_paths.proofs.Mapped.{node_parts}
 use Rattle.priced_paths.proofs.Spots.{depth-of, edge-within}
 use Rattle.price_law.specs.LeastRests.{Breadth, Steps, least_rest, sum_through, through}

@@ -2,3 +2,4 @@ pub mod LeastRests
 pub mod PriceLists
 pub mod Certificates
 pub mod WebRests
+pub mod Truths

@@ -1,8 +1,7 @@
 -- Lists of prices, and the floors of prefixes by them.
-use Rattle.std.specs.Prelude.{ℕ, suc, ◌+◌, ◌-◌, List, [], ◌∷◌, Option, Some, None, true, option_map, length, max}
+use Rattle.std.specs.Prelude.{ℕ, suc, ◌+◌, ◌-◌, List, [], ◌∷◌, Option, Some, None, true, option_map, length}
 use Rattle.cert_law.specs.Tails.{number_of}
 use Rattle.floor_graphs.specs.Cases.{least_below}
-use Rattle.floor_graphs.specs.Graphs.{Rate}
 use Rattle.floor_graphs.specs.Sharper.{greater}
 use Rattle.fux_grid.specs.declared.cell.Cell.{Cell}
 use Rattle.fux_grid.specs.declared.exercise.Exercise.{Exercise}

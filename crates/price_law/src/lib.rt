@@ -3,6 +3,7 @@
 #![tactic(auto)]
 
 ghost use Rattle.price_law.specs.Certificates.{ListsGiveFloors, SharpCertificatesHold, SharpFloorsHold, TailsGiveFloors};
+ghost use Rattle.price_law.specs.Truths.{TailsTellTruth};
 ghost use Rattle.price_law.specs.WebRests.{NumbersAreRests};
 
 /// A law, and nothing to run: where what is charged is due, no lawful setting that goes on from a
@@ -17,6 +18,12 @@ pub fn lists_give_floors()
 /// its floor, and it has the one where it has the other.
 pub fn tails_give_floors()
     ensures { TailsGiveFloors }
+{}
+
+/// A law, and nothing to run: what tells, of a prefix's tail, whether a claim is true tells by the
+/// tail that lists give it whether the claim is true by the lists. So one judge serves all forms.
+pub fn tails_tell_truth()
+    ensures { TailsTellTruth }
 {}
 
 /// A law, and nothing to run: what the head of a valid certificate says holds. Its setting is the

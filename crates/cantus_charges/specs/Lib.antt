@@ -1,0 +1,2 @@
+pub mod ChargeLines
+pub mod Charges
