@@ -1,4 +1,5 @@
--- The web of what is kept of the settings of an exercise (`IsWoven`).
+-- The web of what is kept of the settings of an exercise (`IsWoven`), and what a try to find the
+-- best of them answers (`IsTry`).
 use Rattle.std.specs.Prelude.{[]}
 use Rattle.fux_grid.specs.declared.exercise.Exercise.{Exercise}
 use Rattle.fux_grid.specs.Exercises.{columns_in}
@@ -9,6 +10,19 @@ use Rattle.priced_paths.specs.Webs.{IsWeb}
 use Rattle.priced_floors.specs.declared.kept.Kept.{Kept}
 use Rattle.priced_floors.specs.Kept.{kept_of, step_of}
 use Rattle.priced_floors.specs.PricedLaws.{breadth_of}
+use Rattle.floor_graphs.specs.Sameness.{AgreesWithAnswers}
+use Rattle.species_space.specs.Paths.{live_at}
+use Rattle.tree_search.specs.Answer.{BoundsLeaves, HasNoLeaf, IsFirstLeast}
+use Rattle.tree_search.specs.Outcomes.{IfFound, IfSpent, OnNothing}
+use Rattle.tree_search.specs.declared.outcome.Outcome.{Outcome}
 
 abbrev pub IsWoven : Exercise → Sheet → Keeps → Web Kept → Type 0
 IsWoven ex sheet keeps web = IsWeb (kept_of ex keeps []) (columns_in ex) (breadth_of ex) (step_of ex sheet keeps) web
+
+-- what is found is the first best setting, where nothing is found there is none, the bound of a
+-- spent try is one of all, and whatever ends answers the same
+pub record IsTry (ex : Exercise) (sheet : Sheet) (outcome : Outcome) : Type 0 where
+  pub found : IfFound outcome (IsFirstLeast (live_at ex sheet) (columns_in ex))
+  pub nothing : OnNothing outcome (HasNoLeaf (live_at ex sheet) (columns_in ex))
+  pub bound : IfSpent outcome (BoundsLeaves (live_at ex sheet) (columns_in ex))
+  pub agrees : AgreesWithAnswers (live_at ex sheet) (columns_in ex) outcome

@@ -10,8 +10,16 @@ use penalty_sheet::{Sheet, weight};
 use priced_floors::{CASES, Charges, PITCHES, Prices, SCALE, Summit};
 use std::alloc::Global;
 
-/// How many rounds there are at most, for all cases together.
+/// How many rounds there are at most over a web, for all cases together.
 const ROUNDS: usize = 300;
+
+/// How many there are at most over a larger web, from the prices of the first one on.
+const MORE_ROUNDS: usize = 100;
+
+/// How far above the sum the aim is at first, and where prices are known already.
+const FIRST_AIM: i64 = 64;
+
+const LATER_AIM: i64 = 16;
 
 /// Prices are worked in so many parts of a part.
 const FINE: i64 = 256;
@@ -164,6 +172,14 @@ fn least_step(
 }
 
 impl Round {
+    /// Room for the sums of the ways through a web.
+    fn new(alloc: Global, ways: &Ways) -> Result<Round, Memory> {
+        Ok(Round {
+            sums: vec![in alloc; NONE; ways.first.len().wrapping_mul(2)]?,
+            strikes: vec![in alloc; 0i64; WIDTH]?,
+        })
+    }
+
     /// The least sums by some prices, from the last nodes back.
     fn work(&mut self, ways: &Ways, summit: &Summit, prices: &[i64]) {
         let count = ways.first.len();
@@ -278,10 +294,24 @@ impl Bid {
             best: vec![in alloc; 0i64; WIDTH]?,
             way: vec![in alloc; 0i64; WIDTH]?,
             sum: i64::MIN,
-            aim: 64,
+            aim: FIRST_AIM,
             stalled: 0,
             is_done: false,
         })
+    }
+
+    /// Begins anew, with the best prices.
+    fn begin_again(&mut self) {
+        self.go_back();
+        for place in 0..WIDTH {
+            if let Some(way) = self.way.get_mut(place) {
+                *way = 0;
+            }
+        }
+        self.sum = i64::MIN;
+        self.aim = LATER_AIM;
+        self.stalled = 0;
+        self.is_done = false;
     }
 
     /// What the prices charge from a start on that isn't due.
@@ -555,45 +585,82 @@ fn raise_all(
     Ok(())
 }
 
-/// Prices of each case, four voices each: the first that were found, or raised ones.
-pub fn find_prices(
-    alloc: Global,
-    sheet: &Sheet,
-    ways: &Ways,
-    charges: &Charges,
-    raised: bool,
-) -> Result<Vec<Prices>, Memory> {
-    let most = i64::from(weight(sheet, 20)) * i64::from(SCALE) * FINE;
-    let mut round = Round {
-        sums: vec![in alloc; NONE; ways.first.len().wrapping_mul(2)]?,
-        strikes: vec![in alloc; 0i64; WIDTH]?,
-    };
-    let start = Start::new(alloc)?;
-    let mut bids: Vec<Bid> = Vec::new(alloc);
-    for _case in 0..charges.summits.len().min(CASES) {
-        bids.push(Bid::new(alloc)?)?;
-    }
-    for _turn in 0..ROUNDS {
-        let Some(k) = least_case(&bids) else {
-            break;
-        };
-        let case = Case {
-            ways,
-            summit: charges.summit(k),
-            most,
-        };
-        if let Some(bid) = bids.get_mut(k) {
-            bid.improve(&case, &mut round, &start);
+/// The prices of all cases, and the most that a strike is charged.
+#[derive(Drop)]
+pub struct Bids {
+    bids: Vec<Bid>,
+    most: i64,
+}
+
+impl Bids {
+    /// No prices.
+    pub fn new(alloc: Global, sheet: &Sheet, charges: &Charges) -> Result<Bids, Memory> {
+        let mut bids: Vec<Bid> = Vec::new(alloc);
+        for _case in 0..charges.summits.len().min(CASES) {
+            bids.push(Bid::new(alloc)?)?;
         }
+        Ok(Bids {
+            bids,
+            most: i64::from(weight(sheet, 20)) * i64::from(SCALE) * FINE,
+        })
     }
-    if raised {
-        raise_all(alloc, ways, charges, &mut bids, &mut round, most)?;
-    }
-    let mut prices = Vec::new(alloc);
-    for bid in &bids {
-        for v in 0..4usize {
-            prices.push(bid.prices_of(v))?;
+
+    /// So many rounds at most.
+    fn go_on(
+        &mut self,
+        alloc: Global,
+        ways: &Ways,
+        charges: &Charges,
+        rounds: usize,
+    ) -> Result<(), Memory> {
+        let mut round = Round::new(alloc, ways)?;
+        let start = Start::new(alloc)?;
+        for _turn in 0..rounds {
+            let Some(k) = least_case(&self.bids) else {
+                break;
+            };
+            let case = Case {
+                ways,
+                summit: charges.summit(k),
+                most: self.most,
+            };
+            if let Some(bid) = self.bids.get_mut(k) {
+                bid.improve(&case, &mut round, &start);
+            }
         }
+        Ok(())
     }
-    Ok(prices)
+
+    /// Seeks prices by the ways through a web.
+    pub fn seek(&mut self, alloc: Global, ways: &Ways, charges: &Charges) -> Result<(), Memory> {
+        self.go_on(alloc, ways, charges, ROUNDS)
+    }
+
+    /// Seeks them by the ways through a larger web, from the best ones on.
+    pub fn seek_on(&mut self, alloc: Global, ways: &Ways, charges: &Charges) -> Result<(), Memory> {
+        for k in 0..self.bids.len() {
+            if let Some(bid) = self.bids.get_mut(k) {
+                bid.begin_again();
+            }
+        }
+        self.go_on(alloc, ways, charges, MORE_ROUNDS)
+    }
+
+    /// Raises the best prices for the later part.
+    pub fn raise(&mut self, alloc: Global, ways: &Ways, charges: &Charges) -> Result<(), Memory> {
+        let mut round = Round::new(alloc, ways)?;
+        let most = self.most;
+        raise_all(alloc, ways, charges, &mut self.bids, &mut round, most)
+    }
+
+    /// The best prices of each case, four voices each.
+    pub fn prices(&self, alloc: Global) -> Result<Vec<Prices>, Memory> {
+        let mut prices = Vec::new(alloc);
+        for bid in &self.bids {
+            for v in 0..4usize {
+                prices.push(bid.prices_of(v))?;
+            }
+        }
+        Ok(prices)
+    }
 }

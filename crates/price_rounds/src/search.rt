@@ -5,16 +5,17 @@ ghost use Rattle.fux_grid.specs.Exercises.{IsValid, columns_in};
 ghost use Rattle.floor_graphs.specs.Sameness.{AgreesWithAnswers};
 ghost use Rattle.priced_floors.specs.Charges.{AreFairCharges, AreSmallCharges};
 ghost use Rattle.priced_floors.specs.declared.charges.TheConstants.{CASES, MOST_CHARGE, SCALE};
-ghost use Rattle.price_rounds.specs.Woven.{IsWoven};
+ghost use Rattle.price_rounds.specs.Woven.{IsTry, IsWoven};
 ghost use Rattle.species_space.specs.Paths.{live_at};
 ghost use Rattle.tree_search.specs.Answer.{BoundsLeaves, HasNoLeaf, IsFirstLeast, IsOverBudget};
 ghost use Rattle.tree_search.specs.Outcomes.{IfFound, IfSpent, IsSpent, OnNothing};
 
 use crate::keys::summit_keys;
-use crate::woven::{Woven, weave_first};
+use crate::rounds::Bids;
+use crate::woven::{Woven, weave, weave_first};
 use fux_pitch::Memory;
 use open_ends::Keeps;
-use priced_floors::{Charges, PricedSpace};
+use priced_floors::{Charges, PricedSpace, Prices};
 use priced_paths::{search_unpriced, search_web};
 use species_space::SpeciesSpace;
 use std::alloc::Global;
@@ -25,7 +26,10 @@ const FIRST_BUDGET: u32 = 32_768;
 
 /// How many are at most by the floors that keep least. These are made soonest, and often are
 /// enough.
-const LEAST_BUDGET: u32 = 262_144;
+const LEAST_BUDGET: u32 = 196_608;
+
+/// How many are at most by the floors that keep most, before prices are raised, which takes longer.
+const MOST_BUDGET: u32 = 65_536;
 
 /// How many are at most by floors whose prices are raised. Where many prefixes have the floor of
 /// the best setting, these tell sooner which of them lead to none.
@@ -43,19 +47,17 @@ fn plain_charges(alloc: Global, space: &SpeciesSpace<'_>) -> Result<Charges, Mem
     Charges::new(alloc, space.sheet(), &[], voice, &keys)
 }
 
-/// The first leaf of least value, by floors whose prices are sought over a web, raised ones where
-/// they are wanted; by the space's own floors where there is no web.
+/// The first leaf of least value, by floors over a web with these prices.
 fn search_woven(
     alloc: Global,
     space: &SpeciesSpace<'_>,
-    made: &Option<Woven>,
-    plain: &Charges,
-    raised: bool,
+    woven: &Woven,
+    voice: u8,
+    prices: &[Prices],
     budget: u32,
 ) -> Result<Outcome, Memory>
     requires valid { IsValid space.now.exercise }
-    requires web { IfSome made.now (λ woven.
-        IsWoven space.now.exercise space.now.sheet woven.keeps woven.web) }
+    requires web { IsWoven space.now.exercise space.now.sheet woven.now.keeps woven.now.web }
     ensures found { IfOk result
         (λ outcome. IfFound outcome (IsFirstLeast (live_at space.now.exercise space.now.sheet)
         (columns_in space.now.exercise))) }
@@ -71,43 +73,51 @@ fn search_woven(
     ensures agrees { IfOk result (AgreesWithAnswers (live_at space.now.exercise space.now.sheet)
         (columns_in space.now.exercise)) }
 {
-    let Some(woven) = made else {
-        return search_unpriced(alloc, space, budget);
-    };
-    let keys = summit_keys(alloc, space, plain.voice)?;
-    let prices = woven.prices(alloc, space, plain, raised)?;
-    let charges = Charges::new(alloc, space.sheet(), &prices, plain.voice, &keys)?;
+    let keys = summit_keys(alloc, space, voice)?;
+    let charges = Charges::new(alloc, space.sheet(), prices, voice, &keys)?;
     let priced = PricedSpace::new(alloc, space, woven.keeps, &charges)?;
     search_web(alloc, &priced, &woven.web, budget)
 }
 
-/// The first leaf of least value, by floors that keep least.
-fn search_least(alloc: Global, space: &SpeciesSpace<'_>, budget: u32) -> Result<Outcome, Memory>
-    requires { IsValid space.now.exercise }
-    ensures found { IfOk result
-        (λ outcome. IfFound outcome (IsFirstLeast (live_at space.now.exercise space.now.sheet)
-        (columns_in space.now.exercise))) }
-    ensures nothing { IfOk result
-        (λ outcome. OnNothing outcome (HasNoLeaf (live_at space.now.exercise space.now.sheet)
-        (columns_in space.now.exercise))) }
-    ensures bound { IfOk result
-        (λ outcome. IfSpent outcome (BoundsLeaves (live_at space.now.exercise space.now.sheet)
-        (columns_in space.now.exercise))) }
-    ensures over { IfOk result (λ outcome. IsSpent outcome
-        → IsOverBudget (live_at space.now.exercise space.now.sheet) (columns_in space.now.exercise)
-        budget) }
-    ensures agrees { IfOk result (AgreesWithAnswers (live_at space.now.exercise space.now.sheet)
-        (columns_in space.now.exercise)) }
+/// The first leaf of least value within a part of the budget, by floors that keep least. None where
+/// their web can't be made. The web is let go before a larger one is made.
+fn search_least(
+    alloc: Global,
+    space: &SpeciesSpace<'_>,
+    plain: &Charges,
+    bids: &mut Bids,
+    budget: u32,
+) -> Result<Option<Outcome>, Memory>
+    requires valid { IsValid space.now.exercise }
+    requires fair { AreFairCharges plain.now space.now.sheet }
+    requires small { AreSmallCharges MOST_CHARGE plain.now }
+    requires scale { plain.now.scale ≡ SCALE }
+    requires few { length plain.now.summits.items ≤ CASES }
+    ensures { IfOk result (λ tried. IfSome tried (IsTry space.now.exercise space.now.sheet)) }
 {
-    let plain = plain_charges(alloc, space)?;
-    let made = weave_first(alloc, space, &[], &plain)?;
-    search_woven(alloc, space, &made, &plain, false, budget)
+    let Some(least) = weave(alloc, space, Keeps::least(), plain)? else {
+        return Ok(None);
+    };
+    least.seek(alloc, plain, bids)?;
+    let prices = bids.prices(alloc)?;
+    let part = budget.min(LEAST_BUDGET);
+    let outcome = search_woven(alloc, space, &least, plain.voice, &prices, part)?;
+    Ok(Some(outcome))
 }
 
-/// The first leaf of least value, by floors that keep as much as there is room for, at first with
-/// raised prices. Both go over one web.
-fn search_most(alloc: Global, space: &SpeciesSpace<'_>, budget: u32) -> Result<Outcome, Memory>
-    requires { IsValid space.now.exercise }
+/// The first leaf of least value, by floors over a web, at first with raised prices, and then with
+/// these.
+fn search_raised(
+    alloc: Global,
+    space: &SpeciesSpace<'_>,
+    woven: &Woven,
+    voice: u8,
+    raised: &[Prices],
+    prices: &[Prices],
+    budget: u32,
+) -> Result<Outcome, Memory>
+    requires valid { IsValid space.now.exercise }
+    requires web { IsWoven space.now.exercise space.now.sheet woven.now.keeps woven.now.web }
     ensures found { IfOk result
         (λ outcome. IfFound outcome (IsFirstLeast (live_at space.now.exercise space.now.sheet)
         (columns_in space.now.exercise))) }
@@ -123,16 +133,97 @@ fn search_most(alloc: Global, space: &SpeciesSpace<'_>, budget: u32) -> Result<O
     ensures agrees { IfOk result (AgreesWithAnswers (live_at space.now.exercise space.now.sheet)
         (columns_in space.now.exercise)) }
 {
-    let plain = plain_charges(alloc, space)?;
+    let part = budget.min(RAISED_BUDGET);
+    match search_woven(alloc, space, woven, voice, raised, part)? {
+        Outcome::Spent { .. } => search_woven(alloc, space, woven, voice, prices, budget),
+        outcome => Ok(outcome),
+    }
+}
+
+/// The first leaf of least value, by floors that keep as much as there is room for: at first with
+/// the prices that are found soonest, from those of the smaller web on. All go over one web.
+fn search_most(
+    alloc: Global,
+    space: &SpeciesSpace<'_>,
+    plain: &Charges,
+    bids: &mut Bids,
+    budget: u32,
+) -> Result<Outcome, Memory>
+    requires valid { IsValid space.now.exercise }
+    requires fair { AreFairCharges plain.now space.now.sheet }
+    requires small { AreSmallCharges MOST_CHARGE plain.now }
+    requires scale { plain.now.scale ≡ SCALE }
+    requires few { length plain.now.summits.items ≤ CASES }
+    ensures found { IfOk result
+        (λ outcome. IfFound outcome (IsFirstLeast (live_at space.now.exercise space.now.sheet)
+        (columns_in space.now.exercise))) }
+    ensures nothing { IfOk result
+        (λ outcome. OnNothing outcome (HasNoLeaf (live_at space.now.exercise space.now.sheet)
+        (columns_in space.now.exercise))) }
+    ensures bound { IfOk result
+        (λ outcome. IfSpent outcome (BoundsLeaves (live_at space.now.exercise space.now.sheet)
+        (columns_in space.now.exercise))) }
+    ensures over { IfOk result (λ outcome. IsSpent outcome
+        → IsOverBudget (live_at space.now.exercise space.now.sheet) (columns_in space.now.exercise)
+        budget) }
+    ensures agrees { IfOk result (AgreesWithAnswers (live_at space.now.exercise space.now.sheet)
+        (columns_in space.now.exercise)) }
+{
     let most = [Keeps::all(), Keeps::runs_alone(), Keeps::turns_alone()];
-    let made = weave_first(alloc, space, &most, &plain)?;
-    match search_woven(alloc, space, &made, &plain, true, budget.min(RAISED_BUDGET))? {
-        Outcome::Spent { .. } => search_woven(alloc, space, &made, &plain, false, budget),
+    let Some(woven) = weave_first(alloc, space, &most, plain)? else {
+        return search_unpriced(alloc, space, budget);
+    };
+    woven.seek_on(alloc, plain, bids)?;
+    let prices = bids.prices(alloc)?;
+    let part = budget.min(MOST_BUDGET);
+    match search_woven(alloc, space, &woven, plain.voice, &prices, part)? {
+        Outcome::Spent { .. } => {
+            woven.raise(alloc, plain, bids)?;
+            let raised = bids.prices(alloc)?;
+            search_raised(alloc, space, &woven, plain.voice, &raised, &prices, budget)
+        }
+        outcome => Ok(outcome),
+    }
+}
+
+/// What a try found; where it was spent, what the floors that keep most find.
+fn search_after(
+    alloc: Global,
+    space: &SpeciesSpace<'_>,
+    tried: Outcome,
+    plain: &Charges,
+    bids: &mut Bids,
+    budget: u32,
+) -> Result<Outcome, Memory>
+    requires valid { IsValid space.now.exercise }
+    requires tried { IsTry space.now.exercise space.now.sheet tried }
+    requires fair { AreFairCharges plain.now space.now.sheet }
+    requires small { AreSmallCharges MOST_CHARGE plain.now }
+    requires scale { plain.now.scale ≡ SCALE }
+    requires few { length plain.now.summits.items ≤ CASES }
+    ensures found { IfOk result
+        (λ outcome. IfFound outcome (IsFirstLeast (live_at space.now.exercise space.now.sheet)
+        (columns_in space.now.exercise))) }
+    ensures nothing { IfOk result
+        (λ outcome. OnNothing outcome (HasNoLeaf (live_at space.now.exercise space.now.sheet)
+        (columns_in space.now.exercise))) }
+    ensures bound { IfOk result
+        (λ outcome. IfSpent outcome (BoundsLeaves (live_at space.now.exercise space.now.sheet)
+        (columns_in space.now.exercise))) }
+    ensures over { IfOk result (λ outcome. IsSpent outcome
+        → IsOverBudget (live_at space.now.exercise space.now.sheet) (columns_in space.now.exercise)
+        budget) }
+    ensures agrees { IfOk result (AgreesWithAnswers (live_at space.now.exercise space.now.sheet)
+        (columns_in space.now.exercise)) }
+{
+    match tried {
+        Outcome::Spent { .. } => search_most(alloc, space, plain, bids, budget),
         outcome => Ok(outcome),
     }
 }
 
 /// The first leaf of least value, by floors that keep least, and then by those that keep most.
+/// Where no web can be made the space's own floors have the whole budget at once.
 fn search_by_prices(alloc: Global, space: &SpeciesSpace<'_>, budget: u32) -> Result<Outcome, Memory>
     requires { IsValid space.now.exercise }
     ensures found { IfOk result
@@ -150,9 +241,11 @@ fn search_by_prices(alloc: Global, space: &SpeciesSpace<'_>, budget: u32) -> Res
     ensures agrees { IfOk result (AgreesWithAnswers (live_at space.now.exercise space.now.sheet)
         (columns_in space.now.exercise)) }
 {
-    match search_least(alloc, space, budget.min(LEAST_BUDGET))? {
-        Outcome::Spent { .. } => search_most(alloc, space, budget),
-        outcome => Ok(outcome),
+    let plain = plain_charges(alloc, space)?;
+    let mut bids = Bids::new(alloc, space.sheet(), &plain)?;
+    match search_least(alloc, space, &plain, &mut bids, budget)? {
+        Some(tried) => search_after(alloc, space, tried, &plain, &mut bids, budget),
+        None => search_unpriced(alloc, space, budget),
     }
 }
 

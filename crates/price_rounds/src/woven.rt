@@ -5,11 +5,11 @@ ghost use Rattle.priced_floors.specs.Charges.{AreFairCharges, AreSmallCharges};
 ghost use Rattle.priced_floors.specs.declared.charges.TheConstants.{CASES, MOST_CHARGE, SCALE};
 ghost use Rattle.price_rounds.specs.Woven.{IsWoven};
 
-use crate::rounds::find_prices;
+use crate::rounds::Bids;
 use crate::ways::{Ways, ways_of};
 use fux_pitch::Memory;
 use open_ends::Keeps;
-use priced_floors::{Charges, Kept, PricedSpace, Prices};
+use priced_floors::{Charges, Kept, PricedSpace};
 use priced_paths::{Web, web_of};
 use species_space::SpeciesSpace;
 use std::alloc::Global;
@@ -70,18 +70,27 @@ pub fn weave_first(
 }
 
 impl Woven {
-    /// Prices for the cases of these charges, raised ones where they are wanted; none where there
-    /// are too many ways.
-    pub fn prices(
-        &self,
-        alloc: Global,
-        space: &SpeciesSpace<'_>,
-        plain: &Charges,
-        raised: bool,
-    ) -> Result<Vec<Prices>, Memory> {
+    /// Seeks prices by the ways through the web, unless there are too many.
+    pub fn seek(&self, alloc: Global, charges: &Charges, bids: &mut Bids) -> Result<(), Memory> {
         match &self.ways {
-            Some(ways) => find_prices(alloc, space.sheet(), ways, plain, raised),
-            None => Ok(Vec::new(alloc)),
+            Some(ways) => bids.seek(alloc, ways, charges),
+            None => Ok(()),
+        }
+    }
+
+    /// Seeks them from those on that were found by a smaller web.
+    pub fn seek_on(&self, alloc: Global, charges: &Charges, bids: &mut Bids) -> Result<(), Memory> {
+        match &self.ways {
+            Some(ways) => bids.seek_on(alloc, ways, charges),
+            None => Ok(()),
+        }
+    }
+
+    /// Raises them for the later part of the exercise.
+    pub fn raise(&self, alloc: Global, charges: &Charges, bids: &mut Bids) -> Result<(), Memory> {
+        match &self.ways {
+            Some(ways) => bids.raise(alloc, ways, charges),
+            None => Ok(()),
         }
     }
 }

@@ -1,9 +1,9 @@
 use Rattle.floor_graphs.proofs.SameAnswers.{not_spent}
-use Rattle.price_rounds.proofs.search.search_by_prices.Goals as goal
+use Rattle.price_rounds.proofs.search.search_after.Goals as goal
 
 pub returns-in_default : goal.returns-in_default
 returns-in_default c =
-    let first = c.in_ok-outcome.ensures in
+    let first = c.requires.tried in
     record {
       found = first.found;
       nothing = first.nothing;
