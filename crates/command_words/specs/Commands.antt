@@ -302,18 +302,22 @@ explain_asked rows = do
   subject ← subject_in (first_of (codes "with") rows) (is_set (codes "cantus") rows)
   Some (explain name subject)
 
+-- a job on an exercise with the species that a list names
+abbrev pub mixed_by : Text → Option Text → Text → MixedJob → Option Task
+mixed_by name sheet list job = named_in list >>= λ named. Some (on_mixed name sheet named job)
+
 abbrev pub mixed_asked : List Row → Option Task
 mixed_asked rows = do
   name ← first_of (codes "EX") rows
-  named ← first_of (codes "with") rows >>= named_in
+  list ← first_of (codes "with") rows
   budget ← budget_in (first_of (codes "budget") rows)
-  Some (on_mixed name (first_of (codes "sheet") rows) named (mixed.Compose budget))
+  mixed_by name (first_of (codes "sheet") rows) list (mixed.Compose budget)
 
 abbrev pub mark_mixed_asked : List Row → Option Task
 mark_mixed_asked rows = do
   name ← first_of (codes "EX") rows
-  named ← first_of (codes "with") rows >>= named_in
-  Some (on_mixed name None named mixed.Mark)
+  list ← first_of (codes "with") rows
+  mixed_by name None list mixed.Mark
 
 -- the budget of the search that a setting is weighed against: `best` is the only one, and a budget
 -- is given with it alone
@@ -334,19 +338,20 @@ print_asked rows = do
   wrap ← wrap_in (first_of (codes "wrap") rows)
   Some (on_exercise name None (Print wrap))
 
--- the document with the marks in red, of an exercise or with the species that a list names
-abbrev pub mark_xml_with : Text → Option Text → Option Task
-mark_xml_with name None = Some (on_exercise name None MarkXml)
-mark_xml_with name (Some list) = named_in list >>= λ named. Some (on_mixed name None named mixed.MarkXml)
+-- a job on an exercise, or another with the species that a list names, where there is one
+abbrev pub either_by : Text → Option Text → Job → MixedJob → Option Task
+either_by name None job other = Some (on_exercise name None job)
+either_by name (Some list) job other = mixed_by name None list other
 
-abbrev pub mark_xml_asked : List Row → Option Task
-mark_xml_asked rows = first_of (codes "EX") rows >>= λ name. mark_xml_with name (first_of (codes "with") rows)
+abbrev pub either_asked : Job → MixedJob → List Row → Option Task
+either_asked job other rows =
+    first_of (codes "EX") rows >>= λ name. either_by name (first_of (codes "with") rows) job other
 
 -- weighing the setting of an exercise, alone or against a search, or with the species that a list
 -- names
 abbrev pub weighing_with : Text → Option Text → Option Text → Option ℕ → Option Task
 weighing_with name sheet None against = Some (on_exercise name sheet (Weigh against))
-weighing_with name sheet (Some list) None = named_in list >>= λ named. Some (on_mixed name sheet named mixed.Weigh)
+weighing_with name sheet (Some list) None = mixed_by name sheet list mixed.Weigh
 weighing_with name sheet (Some list) (Some budget) = None
 
 abbrev pub weigh_asked : List Row → Option Task
@@ -359,15 +364,6 @@ abbrev pub picture_asked : List Row → Option Task
 picture_asked rows = do
   name ← first_of (codes "EX") rows
   Some (on_exercise name (first_of (codes "sheet") rows) (Picture (is_set (codes "penalty") rows)))
-
--- a picture with marks, by the rules of the exercise or with the species that a list names
-abbrev pub marked_picture_with : Text → Option Text → Option Task
-marked_picture_with name None = Some (on_exercise name None MarkPicture)
-marked_picture_with name (Some list) = named_in list >>= λ named. Some (on_mixed name None named mixed.Picture)
-
-abbrev pub mark_picture_asked : List Row → Option Task
-mark_picture_asked rows =
-    first_of (codes "EX") rows >>= λ name. marked_picture_with name (first_of (codes "with") rows)
 
 -- what is wanted, where its range doesn't fall
 abbrev pub if_rising : Wanted → Option Wanted
@@ -419,9 +415,9 @@ asks verb.Mixed = mixed_asked
 asks verb.MarkMixed = mark_mixed_asked
 asks verb.Weigh = weigh_asked
 asks verb.ToXml = job_asked ToXml
-asks verb.MarkXml = mark_xml_asked
+asks verb.MarkXml = either_asked MarkXml mixed.MarkXml
 asks verb.Picture = picture_asked
-asks verb.MarkPicture = mark_picture_asked
+asks verb.MarkPicture = either_asked MarkPicture mixed.Picture
 asks verb.NewCantus = new_cantus_asked
 asks verb.CertCantus = certify_cantus_asked
 asks verb.CheckCantus = check_cantus_asked

@@ -19,7 +19,7 @@ use std::alloc::Global;
 pub enum Job {
     /// Its best setting, found within this budget.
     Compose { budget: u32 },
-    /// The same, found by sharper floors.
+    /// Its best setting, found by sharper floors.
     Best { budget: u32 },
     /// The setting before which so many come, in order of penalty and then of reading.
     ComposeNth { before: u16, budget: u32 },
@@ -71,7 +71,7 @@ pub type Named = [Option<u8>; 4];
 pub enum Subject {
     /// The marks of its setting, or without one what it asks.
     Setting,
-    /// The same with the species that are named for its voices.
+    /// The marks of its setting with the species that are named for its voices.
     Mixed { named: Named },
     /// The marks of its cantus firmus.
     Cantus,

@@ -5,7 +5,7 @@ ghost use Rattle.clap.specs.Words.{first_of, found_of, rows_of};
 ghost use Rattle.fux_text.specs.Names.{mode_named};
 ghost use Rattle.smf_score.specs.Heads.{IsHead};
 ghost use Rattle.text_lines.specs.Numbers.{number_within};
-ghost use Rattle.command_words.specs.Commands.{AreNamed, HasHead, HasMidiHead, IsNamedSubject, IsWanted, against_in, asks, before_in, before_nth, best_asked, budget_in, canon_asked, cantus_asked, cantus_of, certify_asked, certify_cantus_asked, check_asked, check_cantus_asked, class_asked, classing_of, compose_asked, composing, drill_asked, explain_asked, form_in, from_smf_asked, head_in, is_item, is_set, job_asked, making_task, mark_asked, mark_mixed_asked, mark_picture_asked, mark_xml_asked, mark_xml_with, marked_picture_with, marking_of, mixed_asked, named_in, new_cantus_asked, number_at, picture_asked, print_asked, said_of, search_in, subject_in, task_of, wanted_in, weigh_asked, weighing_with, wrap_in};
+ghost use Rattle.command_words.specs.Commands.{AreNamed, HasHead, HasMidiHead, IsNamedSubject, IsWanted, against_in, asks, before_in, before_nth, best_asked, budget_in, canon_asked, cantus_asked, cantus_of, certify_asked, certify_cantus_asked, check_asked, check_cantus_asked, class_asked, classing_of, compose_asked, composing, drill_asked, either_asked, either_by, explain_asked, form_in, from_smf_asked, head_in, is_item, is_set, job_asked, making_task, mark_asked, mark_mixed_asked, marking_of, mixed_asked, mixed_by, named_in, new_cantus_asked, number_at, picture_asked, print_asked, said_of, search_in, subject_in, task_of, wanted_in, weigh_asked, weighing_with, wrap_in};
 
 use crate::command::{Command, Job, Making, MixedJob, Named, Search, Subject, Wanted};
 use crate::verbs::Verb;
@@ -447,6 +447,26 @@ fn named_in(list: &str) -> Option<Named>
     Some([first, second, third, fourth])
 }
 
+/// A job on an exercise with the species that a list names.
+fn mixed_by<'a>(
+    name: &'a str,
+    sheet: Option<&'a str>,
+    list: &str,
+    job: MixedJob,
+) -> Option<Command<'a>>
+    ensures asked { option_map task_of result ≡ mixed_by name.entry.now
+        (option_map (λ text. text.now) sheet.entry) list.now job }
+    ensures head { IfSome result HasHead }
+{
+    let named = named_in(list)?;
+    Some(Command::Make(Making::OnMixed {
+        name,
+        sheet,
+        named,
+        job,
+    }))
+}
+
 /// `mixed`, on the exercise of a file.
 fn mixed_asked<'a>(matches: &ArgMatches<'a>) -> Option<Command<'a>>
     ensures asked { option_map task_of result ≡ mixed_asked (rows_of (found_of matches.now)) }
@@ -454,16 +474,9 @@ fn mixed_asked<'a>(matches: &ArgMatches<'a>) -> Option<Command<'a>>
 {
     let name = value(matches, "EX")?;
     let list = value(matches, "with")?;
-    let named = named_in(list)?;
     let budget = budget_of(value(matches, "budget"))?;
     let sheet = value(matches, "sheet");
-    let job = MixedJob::Compose { budget };
-    Some(Command::Make(Making::OnMixed {
-        name,
-        sheet,
-        named,
-        job,
-    }))
+    mixed_by(name, sheet, list, MixedJob::Compose { budget })
 }
 
 /// `markmixed`, on the exercise of a file.
@@ -473,46 +486,38 @@ fn mark_mixed_asked<'a>(matches: &ArgMatches<'a>) -> Option<Command<'a>>
 {
     let name = value(matches, "EX")?;
     let list = value(matches, "with")?;
-    let named = named_in(list)?;
-    let sheet = None;
-    let job = MixedJob::Mark;
-    Some(Command::Make(Making::OnMixed {
-        name,
-        sheet,
-        named,
-        job,
-    }))
+    mixed_by(name, None, list, MixedJob::Mark)
 }
 
-/// The document with the marks in red, of an exercise or with the species that a list names.
-fn mark_xml_with<'a>(name: &'a str, with: Option<&'a str>) -> Option<Command<'a>>
-    ensures asked { option_map task_of result ≡ mark_xml_with name.entry.now
-        (option_map (λ text. text.now) with.entry) }
+/// A job on an exercise, or another with the species that a list names, where there is one.
+fn either_by<'a>(
+    name: &'a str,
+    with: Option<&'a str>,
+    job: Job,
+    other: MixedJob,
+) -> Option<Command<'a>>
+    ensures asked { option_map task_of result ≡ either_by name.entry.now
+        (option_map (λ text. text.now) with.entry) job other }
     ensures head { IfSome result HasHead }
 {
-    let sheet = None;
-    let Some(list) = with else {
-        let job = Job::MarkXml;
-        return Some(Command::Make(Making::OnExercise { name, sheet, job }));
-    };
-    let named = named_in(list)?;
-    let job = MixedJob::MarkXml;
-    Some(Command::Make(Making::OnMixed {
-        name,
-        sheet,
-        named,
-        job,
-    }))
+    match with {
+        None => {
+            let sheet = None;
+            Some(Command::Make(Making::OnExercise { name, sheet, job }))
+        }
+        Some(list) => mixed_by(name, None, list, other),
+    }
 }
 
-/// `markxml`, on the exercise of a file.
-fn mark_xml_asked<'a>(matches: &ArgMatches<'a>) -> Option<Command<'a>>
-    ensures asked { option_map task_of result ≡ mark_xml_asked (rows_of (found_of matches.now)) }
+/// A job on the exercise of a file, or another with the species that a list names.
+fn either_asked<'a>(matches: &ArgMatches<'a>, job: Job, other: MixedJob) -> Option<Command<'a>>
+    ensures asked { option_map task_of result ≡ either_asked job other
+        (rows_of (found_of matches.now)) }
     ensures head { IfSome result HasHead }
 {
     let name = value(matches, "EX")?;
     let with = value(matches, "with");
-    mark_xml_with(name, with)
+    either_by(name, with, job, other)
 }
 
 /// The budget of the search that a setting is weighed against, if it is weighed against one.
@@ -548,14 +553,7 @@ fn weighing_with<'a>(
     if against.is_some() {
         return None;
     }
-    let named = named_in(list)?;
-    let job = MixedJob::Weigh;
-    Some(Command::Make(Making::OnMixed {
-        name,
-        sheet,
-        named,
-        job,
-    }))
+    mixed_by(name, sheet, list, MixedJob::Weigh)
 }
 
 /// `weigh`, on the exercise of a file.
@@ -580,37 +578,6 @@ fn picture_asked<'a>(matches: &ArgMatches<'a>) -> Option<Command<'a>>
     let penalty = is_set(matches, "penalty");
     let job = Job::Picture { penalty };
     Some(Command::Make(Making::OnExercise { name, sheet, job }))
-}
-
-/// A picture with marks, by the rules of the exercise or with the species that a list names.
-fn marked_picture_with<'a>(name: &'a str, with: Option<&'a str>) -> Option<Command<'a>>
-    ensures asked { option_map task_of result ≡ marked_picture_with name.entry.now
-        (option_map (λ text. text.now) with.entry) }
-    ensures head { IfSome result HasHead }
-{
-    let sheet = None;
-    let Some(list) = with else {
-        let job = Job::MarkPicture;
-        return Some(Command::Make(Making::OnExercise { name, sheet, job }));
-    };
-    let named = named_in(list)?;
-    let job = MixedJob::Picture;
-    Some(Command::Make(Making::OnMixed {
-        name,
-        sheet,
-        named,
-        job,
-    }))
-}
-
-/// `markpicture`, of the exercise of a file.
-fn mark_picture_asked<'a>(matches: &ArgMatches<'a>) -> Option<Command<'a>>
-    ensures asked { option_map task_of result ≡ mark_picture_asked
-        (rows_of (found_of matches.now)) }
-    ensures head { IfSome result HasHead }
-{
-    let name = value(matches, "EX")?;
-    marked_picture_with(name, value(matches, "with"))
 }
 
 /// What is asked of a new cantus.
@@ -704,9 +671,9 @@ pub fn asked_of<'a>(verb: Verb, matches: &ArgMatches<'a>) -> Option<Command<'a>>
         Verb::MarkMixed => mark_mixed_asked(matches),
         Verb::Weigh => weigh_asked(matches),
         Verb::ToXml => job_asked(matches, Job::ToXml),
-        Verb::MarkXml => mark_xml_asked(matches),
+        Verb::MarkXml => either_asked(matches, Job::MarkXml, MixedJob::MarkXml),
         Verb::Picture => picture_asked(matches),
-        Verb::MarkPicture => mark_picture_asked(matches),
+        Verb::MarkPicture => either_asked(matches, Job::MarkPicture, MixedJob::Picture),
         Verb::NewCantus => new_cantus_asked(matches),
         Verb::CertCantus => certify_cantus_asked(matches),
         Verb::CheckCantus => check_cantus_asked(matches),

@@ -9,7 +9,7 @@ ghost use Rattle.command_words.specs.Verbs.{has_word, kind_of, name_of, row_of, 
 pub enum Verb {
     /// The best setting of an exercise.
     Compose,
-    /// The same, found by sharper floors.
+    /// The best setting of an exercise, found by sharper floors.
     Best,
     /// The certificate of the best setting of an exercise.
     Certify,
@@ -113,7 +113,7 @@ pub enum Part {
     Form,
     /// The species of voices, as a list.
     With,
-    /// The same where it may be left out.
+    /// The species of voices, as a list that may be left out.
     MayWith,
     /// The cantus firmus alone in place of the setting.
     CantusAlone,

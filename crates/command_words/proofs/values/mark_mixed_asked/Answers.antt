@@ -8,15 +8,5 @@ pub returns-in_err-list-clause-asked : goal.returns-in_err-list-clause-asked
 returns-in_err-list-clause-asked c =
     rw (c.from_residual-in_err-list.ensures, ← c.in_ok-name.ensures, ← c.in_err-list.ensures) refl
 
-pub returns-in_err-named-clause-asked : goal.returns-in_err-named-clause-asked
-returns-in_err-named-clause-asked c =
-    rw (
-      c.from_residual-in_err-named.ensures,
-      ← c.in_ok-name.ensures,
-      ← c.in_ok-list.ensures,
-      ← c.in_err-named.ensures.value,
-    ) refl
-
 pub returns-clause-asked : goal.returns-clause-asked
-returns-clause-asked c =
-    rw (← c.in_ok-name.ensures, ← c.in_ok-list.ensures, ← c.in_ok-named.ensures.value) refl
+returns-clause-asked c = rw (c.mixed_by.ensures.asked, ← c.in_ok-name.ensures, ← c.in_ok-list.ensures) refl

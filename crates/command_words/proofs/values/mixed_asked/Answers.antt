@@ -8,22 +8,12 @@ pub returns-in_err-list-clause-asked : goal.returns-in_err-list-clause-asked
 returns-in_err-list-clause-asked c =
     rw (c.from_residual-in_err-list.ensures, ← c.in_ok-name.ensures, ← c.in_err-list.ensures) refl
 
-pub returns-in_err-named-clause-asked : goal.returns-in_err-named-clause-asked
-returns-in_err-named-clause-asked c =
-    rw (
-      c.from_residual-in_err-named.ensures,
-      ← c.in_ok-name.ensures,
-      ← c.in_ok-list.ensures,
-      ← c.in_err-named.ensures.value,
-    ) refl
-
 pub returns-in_err-budget-clause-asked : goal.returns-in_err-budget-clause-asked
 returns-in_err-budget-clause-asked c =
     rw (
       c.from_residual-in_err-budget.ensures,
       ← c.in_ok-name.ensures,
       ← c.in_ok-list.ensures,
-      ← c.in_ok-named.ensures.value,
       ← c.value-3.ensures,
       ← c.in_err-budget.ensures,
     ) refl
@@ -31,9 +21,9 @@ returns-in_err-budget-clause-asked c =
 pub returns-clause-asked : goal.returns-clause-asked
 returns-clause-asked c =
     rw (
+      c.mixed_by.ensures.asked,
       ← c.in_ok-name.ensures,
       ← c.in_ok-list.ensures,
-      ← c.in_ok-named.ensures.value,
       ← c.value-3.ensures,
       ← c.in_ok-budget.ensures,
       ← c.value-sheet.ensures,
