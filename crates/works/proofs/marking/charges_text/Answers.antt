@@ -9,3 +9,6 @@ bill_of-requires c =
       fewest = omega (arith, same, whole, c.requires.fewest_bars);
       most = omega (arith, same, whole, c.requires.most_bars);
     }
+
+pub returns : goal.returns
+returns c = rw (c.in_ok-bill.ensures.charges, c.as_slice.ensures) at c.bill_text.ensures
