@@ -48,7 +48,7 @@ holds_follow c p zero cells held behind = behind c
 holds_follow c p (suc n) cells held behind =
     (held, holds_follow (Hold p) p n cells (same_pitch-from_equal p p refl) behind)
 
-cells_follow : (at over : ℕ) (notes : List Placed) (c : Cell) → LineFollows c (cells_of at over notes)
+pub cells_follow : (at over : ℕ) (notes : List Placed) (c : Cell) → LineFollows c (cells_of at over notes)
 cells_follow at over [] c =
     subst (LineFollows c) (append-nil (replicate (over - at) Rest)) (rests_follow c (over - at) [] (λ b. tt))
 cells_follow at over (note ∷ notes) c =

@@ -31,7 +31,7 @@ fn last_end(notes: &[Placed]) -> u64
 }
 
 /// The slot at which the last note of all has ended.
-fn last_slot(voices: &[List<Placed>]) -> u64
+pub fn last_slot(voices: &[List<Placed>]) -> u64
     ensures { result ≡ last_slot voices.now }
 {
     let mut last = 0;

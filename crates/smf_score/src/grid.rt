@@ -19,7 +19,7 @@ fn push_times(cells: &mut Vec<Cell>, cell: Cell, count: u64) -> Result<(), Alloc
 }
 
 /// The cells of a voice from the beginning up to a slot.
-fn cells_of(alloc: Global, notes: &[Placed], over: u64) -> Result<Vec<Cell>, AllocError>
+pub fn cells_of(alloc: Global, notes: &[Placed], over: u64) -> Result<Vec<Cell>, AllocError>
     ensures { IfOk result (λ cells. cells.items ≡ cells_of 0 over notes.now) }
 {
     let mut cells = Vec::new(alloc);

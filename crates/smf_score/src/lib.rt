@@ -14,7 +14,13 @@ mod reading;
 mod strokes;
 mod written;
 
+pub use exercise::last_slot;
 pub use fault::SmfFault;
+pub use grid::cells_of;
+pub use order::put_in_order;
+pub use placed::{Placed, places_of};
+pub use played::{Layout, Played, notes_of};
 pub use read_back::scores_read_back;
 pub use reading::{from_smf, one_reading};
+pub use strokes::{Act, Stroke, next_event, stroke_of_event};
 pub use written::to_smf;

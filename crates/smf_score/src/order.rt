@@ -9,7 +9,7 @@ use std::alloc::AllocError;
 
 /// Puts notes in order: voice by voice, in a voice by the ticks at which they start, and at one
 /// tick as they are struck.
-pub(crate) fn put_in_order(notes: &mut Vec<Played>) -> Result<(), AllocError>
+pub fn put_in_order(notes: &mut Vec<Played>) -> Result<(), AllocError>
     requires { All IsPlayed notes.old.items }
     ensures order { OnOk result (IsInOrder notes.old.items notes.new.items) }
     ensures bounds { All IsPlayed notes.new.items }

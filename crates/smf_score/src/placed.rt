@@ -16,14 +16,14 @@ use std::alloc::Global;
 /// A note on the grid: the slot at which it starts and the one at which it has ended, both counted
 /// from the beginning, and its pitch.
 #[derive(Clone, Copy)]
-pub(crate) struct Placed {
-    pub(crate) start: u64,
-    pub(crate) end: u64,
-    pub(crate) pitch: Pitch,
+pub struct Placed {
+    pub start: u64,
+    pub end: u64,
+    pub pitch: Pitch,
 }
 
 /// The slot of a tick, where a quarter note has so many ticks: the nearest one, the later of two.
-fn slot(division: u16, tick: u64) -> u64
+fn slot(division: u32, tick: u64) -> u64
     requires division { 0 < division }
     requires tick { tick < 2 ^ 48 }
     ensures { result ≡ slot_of division tick }
@@ -33,7 +33,7 @@ fn slot(division: u16, tick: u64) -> u64
 }
 
 /// A note on the grid, of which the voice has ended at a slot before, or its fault.
-fn place(division: u16, ended: u64, note: &Played) -> Result<Placed, SmfFault>
+fn place(division: u32, ended: u64, note: &Played) -> Result<Placed, SmfFault>
     requires division { 0 < division }
     requires note { IsPlayed note.now }
     ensures value { result ≡ place_spelled division (nat_lt (slot_of division note.now.start) ended)
@@ -57,7 +57,7 @@ fn place(division: u16, ended: u64, note: &Played) -> Result<Placed, SmfFault>
 }
 
 /// The notes of a voice on the grid, or its first note at fault.
-fn place_voice(alloc: Global, division: u16, notes: &[Played]) -> Result<Vec<Placed>, SmfFault>
+fn place_voice(alloc: Global, division: u32, notes: &[Played]) -> Result<Vec<Placed>, SmfFault>
     requires division { 0 < division }
     requires notes { All IsPlayed notes.now }
     ensures value { Gives (λ v. v.items) result (voice_placed division notes.now) }
@@ -87,9 +87,9 @@ fn run_of(notes: &[Played], rank: u16) -> usize
 }
 
 /// The notes in order by voices on the grid, or the first note at fault.
-pub(crate) fn places_of(
+pub fn places_of(
     alloc: Global,
-    division: u16,
+    division: u32,
     notes: &[Played],
 ) -> Result<Vec<List<Placed>>, SmfFault>
     requires division { 0 < division }

@@ -14,20 +14,20 @@ const ENDS: usize = 2048;
 
 /// How the notes of a file are voices: its format, and whether the highest voice comes first.
 #[derive(Clone, Copy)]
-pub(crate) struct Layout {
-    pub(crate) format: u16,
-    pub(crate) top_first: bool,
+pub struct Layout {
+    pub format: u16,
+    pub top_first: bool,
 }
 
 /// A note of a file: the rank of its voice, the track that a fault names, the ticks at which it
 /// starts and ends, and its key.
 #[derive(Clone, Copy)]
-pub(crate) struct Played {
-    pub(crate) rank: u16,
-    pub(crate) track: u16,
-    pub(crate) start: u64,
-    pub(crate) end: u64,
-    pub(crate) key: u8,
+pub struct Played {
+    pub rank: u16,
+    pub track: u16,
+    pub start: u64,
+    pub end: u64,
+    pub key: u8,
 }
 
 /// The place of a channel and a key in the table of ends.
@@ -126,7 +126,7 @@ fn notes_backward(
 }
 
 /// The notes of a file in the order in which they are struck.
-pub(crate) fn notes_of(
+pub fn notes_of(
     alloc: Global,
     layout: Layout,
     strokes: &[Stroke],

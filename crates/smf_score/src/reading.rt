@@ -26,7 +26,7 @@ use std::alloc::Global;
 fn read_notes(
     alloc: Global,
     head: &Head,
-    division: u16,
+    division: u32,
     notes: &[Played],
 ) -> Result<Exercise<'static>, SmfFault>
     requires head { IsHead head.now }
@@ -54,7 +54,7 @@ fn read_events(
         format: events.format(),
         top_first: head.top_first,
     };
-    let division = events.division();
+    let division = u32::from(events.division());
     let strokes = strokes_of(alloc, events)?;
     let mut notes = notes_of(alloc, layout, &strokes)?;
     put_in_order(&mut notes)?;

@@ -11,7 +11,7 @@ use std::alloc::Global;
 
 /// What an event does to the notes of its track.
 #[derive(Clone, Copy)]
-pub(crate) enum Act {
+pub enum Act {
     /// It strikes a key, and so ends the note before of this channel and key.
     Strike { channel: u8, key: u8 },
     /// It ends the note of this channel and key.
@@ -24,14 +24,14 @@ pub(crate) enum Act {
 
 /// An event as what it does, with its track and its time.
 #[derive(Clone, Copy)]
-pub(crate) struct Stroke {
-    pub(crate) track: u16,
-    pub(crate) tick: u64,
-    pub(crate) act: Act,
+pub struct Stroke {
+    pub track: u16,
+    pub tick: u64,
+    pub act: Act,
 }
 
 /// What an event does. A key that is struck with velocity 0 is let go.
-fn stroke_of_event(event: Event<'_>) -> Stroke
+pub fn stroke_of_event(event: Event<'_>) -> Stroke
     requires { IsWithinBounds event }
     ensures value { result ≡ stroke_of (timed_seen event.entry) }
     ensures bounds { IsStroke result }
@@ -62,7 +62,7 @@ fn stroke_of_event(event: Event<'_>) -> Stroke
 }
 
 /// The next event, or the fault that stands in its place.
-fn next_event<'a>(events: &mut Events<'a>) -> Option<Result<Event<'a>, ByteFault>>
+pub fn next_event<'a>(events: &mut Events<'a>) -> Option<Result<Event<'a>, ByteFault>>
     ensures first { TakesFirst (to_come events.old) result (to_come events.new) }
     ensures bounds { IfSome result (λ answer. IfOk answer IsWithinBounds) }
 {
