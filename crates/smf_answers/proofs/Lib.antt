@@ -1,0 +1,4 @@
+pub mod FaultLemmas
+pub mod JoinedLemmas
+pub mod OrderLemmas
+pub mod ReadingLemmas

@@ -1,0 +1,7 @@
+pub mod Cantus
+pub mod FaultTexts
+pub mod Faults
+pub mod Joined
+pub mod Meters
+pub mod Orders
+pub mod Reading
