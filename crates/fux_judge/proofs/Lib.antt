@@ -5,7 +5,6 @@ pub mod ChargeLemmas
 pub mod CrateLemmas
 pub mod Ends
 pub mod Facts
-pub mod FourLemmas
 pub mod Grows
 pub mod KeptLemmas
 mod LateLemmas

@@ -133,10 +133,11 @@ fn may_start(ex: &Exercise, v: u8, i: usize, cell: Cell) -> bool
 /// Goes on by one cell of a line, that of column `i`.
 fn pass(ex: &Exercise, v: u8, i: usize, ahead: &mut LineAhead, cell: Cell)
     requires valid { IsValid ex.now }
+    requires voice { v < ex.now.voices }
     requires place { i < columns_in ex.now }
     ensures { StepsAhead ex.now v i cell ahead.old ahead.new }
 {
-    if v >= ex.voices || !is_free(ex, v) {
+    if !is_free(ex, v) {
         return;
     }
     ahead.starts = ahead
@@ -151,8 +152,9 @@ pub(crate) fn pass_all(ex: &Exercise, i: usize, ahead: &mut [LineAhead; 4], colu
     ensures { (p : List (List ACell)) → length p ≡ i → AreAheadOf ex.now p ahead.old
         → AreAheadOf ex.now (p ++ column.now ∷ []) ahead.new }
 {
-    for v in 0..4 {
-        pass(ex, v as u8, i, &mut ahead[v], cell_of(column, v));
+    for v in 0..ex.voices {
+        let cell = cell_of(column, v as usize);
+        pass(ex, v, i, &mut ahead[v as usize], cell);
     }
 }
 

@@ -49,24 +49,24 @@ fn gauge(ex: &Exercise, v: u8, i: usize, kept: &mut LineGauges, cell: Cell)
 {
     match cell {
         Cell::Start(_) => {
-            kept.climax = Q17.step(ex, v, i, kept.climax, cell);
-            kept.compass = Q18.step(ex, v, i, kept.compass, cell);
-            kept.leaps = Q19.step(ex, v, i, kept.leaps, cell);
-            kept.strikes = Q20.step(ex, v, i, kept.strikes, cell);
+            Q17.step(ex, v, i, &mut kept.climax, cell);
+            Q18.step(ex, v, i, &mut kept.compass, cell);
+            Q19.step(ex, v, i, &mut kept.leaps, cell);
+            Q20.step(ex, v, i, &mut kept.strikes, cell);
         }
         Cell::Hold(_) => {}
         Cell::Rest => {}
     }
 }
 
-/// Takes in one column more of all lines, column `i`.
+/// Takes in one column more of all lines, column `i`. A line that has no cell in it stays.
 pub(crate) fn gauge_all(ex: &Exercise, i: usize, kept: &mut [LineGauges; 4], column: &[Cell])
     requires valid { IsValid ex.now }
     requires place { i < columns_in ex.now }
     ensures { (behind : List (List ACell)) → length behind ≡ i → AreGaugesOf behind kept.old
         → AreGaugesOf (column.now ∷ behind) kept.new }
 {
-    for v in 0..4 {
+    for v in 0..column.len().min(4) {
         gauge(ex, v as u8, i, &mut kept[v], cell_of(column, v));
     }
 }

@@ -32,16 +32,15 @@ impl Past {
         }
     }
 
-    /// With one column more, column `i`.
-    pub fn with(&self, ex: &Exercise, i: usize, column: &[Cell]) -> Past
+    /// Takes in one column more, column `i`.
+    #[inline]
+    pub fn note(&mut self, ex: &Exercise, i: usize, column: &[Cell])
         requires valid { IsValid ex.now }
         requires place { i < columns_in ex.now }
-        ensures { (p : Columns) → length p ≡ i → IsPastOf ex.now p self.now
-            → IsPastOf ex.now (p ++ column.now ∷ []) result }
+        ensures { (p : Columns) → length p ≡ i → IsPastOf ex.now p self.old
+            → IsPastOf ex.now (p ++ column.now ∷ []) self.new }
     {
-        Past {
-            parts: AllRules::noted(&self.parts, ex, i, column),
-        }
+        AllRules::note(&mut self.parts, ex, i, column);
     }
 
     /// The pitch of each voice's latest note.

@@ -51,7 +51,7 @@ impl State {
     {
         let cells = col.as_slice();
         let i = self.newest.len;
-        self.past = self.past.with(ex, i, cells);
+        self.past.note(ex, i, cells);
         gauge_all(ex, i, &mut self.gauges, cells);
         pass_all(ex, i, &mut self.ahead, cells);
         self.newest.push(cells);

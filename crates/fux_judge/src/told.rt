@@ -82,12 +82,8 @@ fn keeps_shapes(m: &Moment<'_>) -> bool
         (m.now.column.now ∷ []) → newly_broken m.now.exercise.now p m.now.column.now 3 ≡ false) }
 {
     let i = m.state.newest.len;
-    let part = Rhythm::noted(
-        &m.state.past.parts.second.second.second.first,
-        m.exercise,
-        i,
-        m.column,
-    );
+    let mut part = m.state.past.parts.second.second.second.first;
+    Rhythm::note(&mut part, m.exercise, i, m.column);
     let newest = m.state.newest.with(m.column);
     let place = 8 * (i / 8);
     let sets = sets_of(Form::OneVoice, m.exercise.voices);

@@ -7,7 +7,7 @@ ghost use Rattle.fux_grid.specs.Exercises.{IsValid, columns_in};
 use fux_grid::{Exercise, Score, VoiceSet};
 use fux_judge::{cost_in, is_broken_in, is_cost_settled_in, is_settled_in};
 use melody_rules::{Q17, Q18, Q19, Q20, is_narrow, leap_excess};
-use rhythm_cadence::{noted, unbegun};
+use rhythm_cadence::{note, unbegun};
 use rule_law::Gauge;
 use std::fmt::Write;
 use std::test::Fail;
@@ -67,7 +67,7 @@ fn state<G: Gauge>(it: &G, ex: &Exercise, score: &Score, v: u8) -> G::State
 {
     let mut state = it.start();
     for i in 0..score.len() {
-        state = it.step(ex, v, i, state, score.cell(v as usize, i));
+        it.step(ex, v, i, &mut state, score.cell(v as usize, i));
     }
     state
 }
@@ -100,7 +100,7 @@ fn add_shapes(text: &mut String, ex: &Exercise, score: &Score) -> Result<(), Fai
 {
     let mut part = unbegun();
     for i in 0..score.len() {
-        part = noted(&part, ex, i, score.column(i).as_slice());
+        note(&mut part, ex, i, score.column(i).as_slice());
     }
     if !score.is_empty() {
         let voices = VoiceSet { bits: 2 };

@@ -1,5 +1,5 @@
 -- The notes of four voices.
-use Rattle.std.proofs.Common.{◌≡◌, ℕ, zero, suc, ◌+◌, ◌<◌, Bool, true, ◌&&◌, nat_lt, List, [], ◌∷◌, map, Some, length, get_or, refl, ap, sym, subst, ◌∙◌, arith}
+use Rattle.std.proofs.Common.{◌≡◌, ℕ, ◌+◌, ◌<◌, Bool, true, ◌&&◌, nat_lt, List, [], ◌∷◌, map, Some, length, get_or, refl, ap, sym, ◌∙◌, arith}
 use Rattle.std.specs.Prelude.{slice_get}
 use Rattle.std.proofs.lemmas.Option.{slice_get-get_or}
 use Rattle.fux_grid.specs.declared.cell.Cell.{Cell}
@@ -19,15 +19,6 @@ pub notes_at : (behind : List (List Cell)) (voices : List VoiceNotes) (v : ℕ) 
     → AreNotesOf behind voices → length voices ≡ 4 → v < 4 → IsNotesOf (line v behind) (get_or voices v default)
 notes_at behind voices v default are four here =
     are v (get_or voices v default) (slice_get-get_or voices v default (omega arith))
-
--- what holds of four holds of each of them
-pub each_of_four : (P : ℕ → VoiceNotes → Type 0) (a b c d : VoiceNotes) → P 0 a → P 1 b → P 2 c → P 3 d
-    → (v : ℕ) (notes : VoiceNotes) → slice_get (a ∷ b ∷ c ∷ d ∷ []) v ≡ Some notes → P v notes
-each_of_four P a b c d pa pb pc pd zero notes e = let same : a ≡ notes = cc in subst (P 0) same pa
-each_of_four P a b c d pa pb pc pd (suc zero) notes e = let same : b ≡ notes = cc in subst (P 1) same pb
-each_of_four P a b c d pa pb pc pd (suc (suc zero)) notes e = let same : c ≡ notes = cc in subst (P 2) same pc
-each_of_four P a b c d pa pb pc pd (suc (suc (suc zero))) notes e = let same : d ≡ notes = cc in subst (P 3) same pd
-each_of_four P a b c d pa pb pc pd (suc (suc (suc (suc v)))) notes e = cc
 
 -- the pitch of the latest note
 pub first_pitch : (ns : List Note) → last_of (map (λ n. n.pitch) ns) ≡ note_pitch (first_of ns)

@@ -7,7 +7,7 @@ ghost use Rattle.melody_rules.specs.Notes.{AreNotesOf};
 use crate::melody::{Melody, breaks, breaks_in_score, looks_back};
 use crate::notes::VoiceNotes;
 use crate::tolls::{cost, cost_in_score, open_leaps_in_score};
-use crate::voices::{all_noted, all_silent, breaks_looking_back, open_leaps};
+use crate::voices::{all_silent, breaks_looking_back, note_all, open_leaps};
 use fux_grid::{Cell, Exercise, Score, VoiceSet};
 use rule_law::{Form, LatePlaces, LateQuestion, Latest, NewestColumns, RuleCrate, latest_before};
 
@@ -23,13 +23,9 @@ impl RuleCrate for Melody {
         all_silent()
     }
 
-    fn noted(
-        part: &[VoiceNotes; 4],
-        _ex: &Exercise,
-        _i: usize,
-        column: &[Cell],
-    ) -> [VoiceNotes; 4] {
-        all_noted(part, column)
+    #[inline]
+    fn note(part: &mut [VoiceNotes; 4], _ex: &Exercise, _i: usize, column: &[Cell]) {
+        note_all(part, column);
     }
 
     #[inline(always)]

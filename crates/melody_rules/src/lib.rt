@@ -17,9 +17,9 @@ pub use gauges::{
 };
 pub use melody::{Melody, breaks};
 pub use moves::{leaves_sharp, moves_unmelodically, repeats};
-pub use notes::{VoiceNotes, breaks_after, leap_open_after, noted, notes_before, silent};
+pub use notes::{VoiceNotes, breaks_after, leap_open_after, note, noted, notes_before, silent};
 pub use smooth::{are_smooth, is_smooth_in};
 pub use tolls::{cost, toll_of_move};
 pub use voices::{
-    all_noted, all_notes_before, all_silent, breaks_looking_back, latest_of_notes, open_leaps,
+    all_notes_before, all_silent, breaks_looking_back, latest_of_notes, note_all, open_leaps,
 };

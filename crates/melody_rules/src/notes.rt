@@ -58,22 +58,22 @@ pub(crate) fn lower(key: u8, other: u8) -> u8
     if key < other { key } else { other }
 }
 
-/// The notes with one that starts.
-fn with_note(notes: &VoiceNotes, pitch: Pitch) -> VoiceNotes
-    ensures { (cells : List Cell) → IsNotesOf cells notes.now → IsNotesOf (Start pitch ∷ cells)
-        result }
+/// Takes in a note that starts.
+#[inline]
+fn start_note(notes: &mut VoiceNotes, pitch: Pitch)
+    ensures { (cells : List Cell) → IsNotesOf cells notes.old → IsNotesOf (Start pitch ∷ cells)
+        notes.new }
 {
     let key = semitone(pitch);
-    VoiceNotes {
-        last: Some(pitch),
-        before: notes.last,
-        turning: turning_after(notes, pitch),
-        greatest: higher(key, notes.greatest),
-        least: lower(key, notes.least),
-    }
+    notes.turning = turning_after(notes, pitch);
+    notes.before = notes.last;
+    notes.last = Some(pitch);
+    notes.greatest = higher(key, notes.greatest);
+    notes.least = lower(key, notes.least);
 }
 
 /// The latest turning note, once a further note starts.
+#[inline]
 fn turning_after(notes: &VoiceNotes, pitch: Pitch) -> Option<Pitch>
     ensures { result ≡ (if rows.turns notes.now.before notes.now.last (Start pitch)
         then notes.now.last else notes.now.turning) }
@@ -85,15 +85,25 @@ fn turning_after(notes: &VoiceNotes, pitch: Pitch) -> Option<Pitch>
     }
 }
 
+/// Takes in one more cell of a voice.
+#[inline]
+pub fn note(notes: &mut VoiceNotes, cell: Cell)
+    ensures { (cells : List Cell) → IsNotesOf cells notes.old → IsNotesOf (cell ∷ cells) notes.new }
+{
+    match cell {
+        Cell::Start(pitch) => start_note(notes, pitch),
+        Cell::Hold(_) => {}
+        Cell::Rest => {}
+    }
+}
+
 /// The notes of a voice after one more cell.
 pub fn noted(notes: &VoiceNotes, cell: Cell) -> VoiceNotes
     ensures { (cells : List Cell) → IsNotesOf cells notes.now → IsNotesOf (cell ∷ cells) result }
 {
-    match cell {
-        Cell::Start(pitch) => with_note(notes, pitch),
-        Cell::Hold(_) => *notes,
-        Cell::Rest => *notes,
-    }
+    let mut longer = *notes;
+    note(&mut longer, cell);
+    longer
 }
 
 /// The notes of a voice that start in the first `n` columns of a score.
@@ -103,7 +113,7 @@ pub fn notes_before(score: &Score, v: u8, n: usize) -> VoiceNotes
 {
     let mut notes = silent();
     for j in 0..n {
-        notes = noted(&notes, score.cell(v as usize, j));
+        note(&mut notes, score.cell(v as usize, j));
     }
     notes
 }

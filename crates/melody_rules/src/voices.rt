@@ -8,7 +8,7 @@ ghost use Rattle.rule_law.specs.Nearby.{previous_pitches};
 ghost use Rattle.melody_rules.specs.Notes.{AnswersAfter, AreNotesOf, IsNotesOf};
 ghost use Rattle.melody_rules.specs.Rows as rows;
 
-use crate::notes::{VoiceNotes, breaks_after, leap_open_after, noted, notes_before, silent};
+use crate::notes::{VoiceNotes, breaks_after, leap_open_after, note, notes_before, silent};
 use fux_grid::{Cell, Exercise, Score, VoiceSet, cell_of};
 use rule_law::{Latest, is_free, voice_of};
 
@@ -19,17 +19,15 @@ pub fn all_silent() -> [VoiceNotes; 4]
     [silent(), silent(), silent(), silent()]
 }
 
-/// The notes of all voices after one more column.
-pub fn all_noted(voices: &[VoiceNotes; 4], column: &[Cell]) -> [VoiceNotes; 4]
-    ensures { (behind : List (List Cell)) → AreNotesOf behind voices.now
-        → AreNotesOf (column.now ∷ behind) result }
+/// Takes in one more column of all voices. A voice that has no cell in it keeps its notes.
+#[inline]
+pub fn note_all(voices: &mut [VoiceNotes; 4], column: &[Cell])
+    ensures { (behind : List (List Cell)) → AreNotesOf behind voices.old
+        → AreNotesOf (column.now ∷ behind) voices.new }
 {
-    [
-        noted(&voices[0], cell_of(column, 0)),
-        noted(&voices[1], cell_of(column, 1)),
-        noted(&voices[2], cell_of(column, 2)),
-        noted(&voices[3], cell_of(column, 3)),
-    ]
+    for v in 0..column.len().min(4) {
+        note(&mut voices[v], cell_of(column, v));
+    }
 }
 
 /// The notes of all voices that start in the first `n` columns of a score.

@@ -39,7 +39,7 @@ impl RuleCrate for Motion {
 
     fn start() {}
 
-    fn noted(_part: &(), _ex: &Exercise, _i: usize, _column: &[Cell]) {}
+    fn note(_part: &mut (), _ex: &Exercise, _i: usize, _column: &[Cell]) {}
 
     #[inline(always)]
     fn has_rule(rule: u8) -> bool {

@@ -6,7 +6,7 @@ ghost use Rattle.rhythm_cadence.specs.Parts.{IsShapesOf};
 
 use crate::cadence::breaks_cadence;
 use crate::late::quaver_places;
-use crate::part::{BarShapes, breaks_shapes, noted, unbegun};
+use crate::part::{BarShapes, breaks_shapes, note, unbegun};
 use crate::patterns::{is_pattern_settled, missing_ligatures, pattern_cost, settles_pattern};
 use crate::quavers::{breaks_quaver, is_quaver_settled};
 use crate::rhythm::{Rhythm, breaks, is_open, leaves_shapes};
@@ -36,8 +36,9 @@ impl RuleCrate for Rhythm {
         unbegun()
     }
 
-    fn noted(part: &BarShapes, ex: &Exercise, i: usize, column: &[Cell]) -> BarShapes {
-        noted(part, ex, i, column)
+    #[inline]
+    fn note(part: &mut BarShapes, ex: &Exercise, i: usize, column: &[Cell]) {
+        note(part, ex, i, column);
     }
 
     #[inline(always)]

@@ -45,34 +45,29 @@ pub(crate) fn kept(possible: u16, ex: &Exercise, i: usize, cell: Cell, v: u8) ->
     }
 }
 
-/// The same of a free voice of the exercise; nothing is meant of another.
+/// Takes in one more cell of a voice, where it is free; nothing is meant of another.
 #[inline]
-fn kept_if_free(possible: u16, ex: &Exercise, i: usize, cell: Cell, v: u8) -> u16
+fn keep_if_free(possible: &mut u16, ex: &Exercise, i: usize, cell: Cell, v: u8)
     requires valid { IsValid ex.now }
     requires place { i < columns_in ex.now }
-    ensures { IsFree ex.now v → result ≡ shapes_after ex.now v i possible cell }
+    ensures { IsFree ex.now v → possible.new ≡ shapes_after ex.now v i possible.old cell }
 {
-    if v >= ex.voices || !is_free(ex, v) {
-        return 0;
+    if is_free(ex, v) {
+        *possible = kept(*possible, ex, i, cell, v);
     }
-    kept(possible, ex, i, cell, v)
 }
 
-/// The part with one more column, which stands at place i.
-pub fn noted(part: &BarShapes, ex: &Exercise, i: usize, col: &[Cell]) -> BarShapes
+/// Takes in one more column, which stands at place i.
+#[inline]
+pub fn note(part: &mut BarShapes, ex: &Exercise, i: usize, col: &[Cell])
     requires valid { IsValid ex.now }
     requires place { i < columns_in ex.now }
-    ensures { (p : List (List Cell)) → length p ≡ i → IsShapesOf ex.now p part.now
-        → IsShapesOf ex.now (p ++ col.now ∷ []) result }
+    ensures { (p : List (List Cell)) → length p ≡ i → IsShapesOf ex.now p part.old
+        → IsShapesOf ex.now (p ++ col.now ∷ []) part.new }
 {
-    let [first, second, third, fourth] = part.possible;
-    BarShapes {
-        possible: [
-            kept_if_free(first, ex, i, cell_of(col, 0), 0),
-            kept_if_free(second, ex, i, cell_of(col, 1), 1),
-            kept_if_free(third, ex, i, cell_of(col, 2), 2),
-            kept_if_free(fourth, ex, i, cell_of(col, 3), 3),
-        ],
+    for v in 0..ex.voices {
+        let cell = cell_of(col, v as usize);
+        keep_if_free(&mut part.possible[v as usize], ex, i, cell, v);
     }
 }
 

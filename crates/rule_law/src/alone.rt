@@ -28,8 +28,8 @@ impl<A: RuleCrate> RuleCrate for Alone<A> {
     }
 
     #[inline(always)]
-    fn noted(part: &A::Part, ex: &Exercise, i: usize, column: &[Cell]) -> A::Part {
-        A::noted(part, ex, i, column)
+    fn note(part: &mut A::Part, ex: &Exercise, i: usize, column: &[Cell]) {
+        A::note(part, ex, i, column);
     }
 
     #[inline(always)]

@@ -38,16 +38,9 @@ impl<A: RuleCrate, B: RuleCrate> RuleCrate for Both<A, B> {
     }
 
     #[inline(always)]
-    fn noted(
-        part: &Parts<A::Part, B::Part>,
-        ex: &Exercise,
-        i: usize,
-        column: &[Cell],
-    ) -> Parts<A::Part, B::Part> {
-        Parts {
-            first: A::noted(&part.first, ex, i, column),
-            second: B::noted(&part.second, ex, i, column),
-        }
+    fn note(part: &mut Parts<A::Part, B::Part>, ex: &Exercise, i: usize, column: &[Cell]) {
+        A::note(&mut part.first, ex, i, column);
+        B::note(&mut part.second, ex, i, column);
     }
 
     #[inline(always)]

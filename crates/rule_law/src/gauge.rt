@@ -30,11 +30,12 @@ pub trait Gauge {
     fn start(&self) -> Self::State
         ensures { is_of [] result };
 
-    /// After one more cell of voice `v`, that of column `i`.
-    fn step(&self, ex: &Exercise, v: u8, i: usize, s: Self::State, c: Cell) -> Self::State
+    /// Takes in one more cell of voice `v`, that of column `i`.
+    fn step(&self, ex: &Exercise, v: u8, i: usize, s: &mut Self::State, c: Cell)
         requires valid { IsValid ex.now }
         requires place { i < columns_in ex.now }
-        ensures { (cells : List Cell) → length cells ≡ i → is_of cells s → is_of (c ∷ cells) result };
+        ensures { (cells : List Cell) → length cells ≡ i → is_of cells s.old
+            → is_of (c ∷ cells) s.new };
 }
 
 /// Whether some column of the menu at a place has a start of the voice.

@@ -33,11 +33,11 @@ pub trait RuleCrate {
     fn start() -> Self::Part
         ensures { (ex : AnExercise) → is_part ex [] result };
 
-    /// What is kept with one column more, column `i`.
-    fn noted(part: &Self::Part, ex: &Exercise, i: usize, column: &[Cell]) -> Self::Part
+    /// Takes in one column more, column `i`.
+    fn note(part: &mut Self::Part, ex: &Exercise, i: usize, column: &[Cell])
         requires valid { IsValid ex.now }
         requires place { i < columns_in ex.now }
-        ensures { KeptWith (is_part ex.now) i column.now part.now result };
+        ensures { KeptWith (is_part ex.now) i column.now part.old part.new };
 
     /// Whether the book has a rule of this number.
     fn has_rule(rule: u8) -> bool

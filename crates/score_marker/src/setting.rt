@@ -89,7 +89,7 @@ pub fn marks(alloc: Global, ex: &Exercise, score: &Score) -> Result<Vec<Mark>, M
     let mut past = Past::none();
     for i in 0..score.len() {
         mark_place(&mut marks, ex, score, i, &past)?;
-        past = past.with(ex, i, score.column(i).as_slice());
+        past.note(ex, i, score.column(i).as_slice());
     }
     Ok(marks)
 }

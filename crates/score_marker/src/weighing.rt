@@ -114,7 +114,7 @@ fn charge_places(
     for i in 0..score.len() {
         charge_breaks(charges, alloc, ex, score, i, &past)?;
         charge_tolls(charges, ex, sheet, score, i)?;
-        past = past.with(ex, i, score.column(i).as_slice());
+        past.note(ex, i, score.column(i).as_slice());
     }
     Ok(())
 }
@@ -127,7 +127,7 @@ fn kept_of_line<G: Gauge>(gauge: &G, ex: &Exercise, score: &Score, v: u8) -> G::
 {
     let mut kept = gauge.start();
     for j in 0..score.len() {
-        kept = gauge.step(ex, v, j, kept, score.cell(v as usize, j));
+        gauge.step(ex, v, j, &mut kept, score.cell(v as usize, j));
     }
     kept
 }

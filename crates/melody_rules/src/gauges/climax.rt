@@ -91,11 +91,12 @@ impl Gauge for Q17 {
         }
     }
 
-    fn step(&self, _ex: &Exercise, _v: u8, _i: usize, s: Climax, c: Cell) -> Climax {
+    #[inline]
+    fn step(&self, _ex: &Exercise, _v: u8, _i: usize, s: &mut Climax, c: Cell) {
         match c {
-            Cell::Start(pitch) => climax_with(s, pitch),
-            Cell::Hold(_) => s,
-            Cell::Rest => s,
+            Cell::Start(pitch) => *s = climax_with(*s, pitch),
+            Cell::Hold(_) => {}
+            Cell::Rest => {}
         }
     }
 }

@@ -62,11 +62,12 @@ impl Gauge for Q18 {
         }
     }
 
-    fn step(&self, _ex: &Exercise, _v: u8, _i: usize, s: Compass, c: Cell) -> Compass {
+    #[inline]
+    fn step(&self, _ex: &Exercise, _v: u8, _i: usize, s: &mut Compass, c: Cell) {
         match c {
-            Cell::Start(pitch) => with_note(s, pitch),
-            Cell::Hold(_) => s,
-            Cell::Rest => s,
+            Cell::Start(pitch) => *s = with_note(*s, pitch),
+            Cell::Hold(_) => {}
+            Cell::Rest => {}
         }
     }
 }

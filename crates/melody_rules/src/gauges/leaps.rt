@@ -75,11 +75,12 @@ impl Gauge for Q19 {
         }
     }
 
-    fn step(&self, _ex: &Exercise, _v: u8, _i: usize, s: Leaps, c: Cell) -> Leaps {
+    #[inline]
+    fn step(&self, _ex: &Exercise, _v: u8, _i: usize, s: &mut Leaps, c: Cell) {
         match c {
-            Cell::Start(pitch) => leaps_with(s, pitch),
-            Cell::Hold(_) => s,
-            Cell::Rest => s,
+            Cell::Start(pitch) => *s = leaps_with(*s, pitch),
+            Cell::Hold(_) => {}
+            Cell::Rest => {}
         }
     }
 }

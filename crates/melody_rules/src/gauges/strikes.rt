@@ -36,19 +36,16 @@ pub fn place_of(p: Pitch) -> usize
     3 * (usize::from(p.degree()) - 7) + alter
 }
 
-/// With one note more.
-fn with_note(kept: &Strikes, pitch: Pitch) -> Strikes
-    ensures { (ps : List APitch) → length ps < 192 → IsStrikesOf ps kept.now →
-        IsStrikesOf (pitch ∷ ps) result }
+/// Takes in one note more.
+#[inline]
+fn strike(kept: &mut Strikes, pitch: Pitch)
+    ensures { (ps : List APitch) → length ps < 192 → IsStrikesOf ps kept.old →
+        IsStrikesOf (pitch ∷ ps) kept.new }
 {
     let place = place_of(pitch);
     let before = kept.counts[place];
-    let mut counts = kept.counts;
-    counts[place] = before.saturating_add(1);
-    Strikes {
-        counts,
-        beyond: kept.beyond.saturating_add(u8::from(before >= 4)),
-    }
+    kept.counts[place] = before.saturating_add(1);
+    kept.beyond = kept.beyond.saturating_add(u8::from(before >= 4));
 }
 
 impl Gauge for Q20 {
@@ -67,11 +64,12 @@ impl Gauge for Q20 {
         }
     }
 
-    fn step(&self, _ex: &Exercise, _v: u8, _i: usize, s: Strikes, c: Cell) -> Strikes {
+    #[inline]
+    fn step(&self, _ex: &Exercise, _v: u8, _i: usize, s: &mut Strikes, c: Cell) {
         match c {
-            Cell::Start(pitch) => with_note(&s, pitch),
-            Cell::Hold(_) => s,
-            Cell::Rest => s,
+            Cell::Start(pitch) => strike(s, pitch),
+            Cell::Hold(_) => {}
+            Cell::Rest => {}
         }
     }
 }

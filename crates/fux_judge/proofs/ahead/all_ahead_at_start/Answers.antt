@@ -2,7 +2,7 @@ use Rattle.std.proofs.Common.{ℕ}
 use Rattle.fux_grid.specs.Exercises.{IsFree}
 use Rattle.fux_judge.specs.declared.ahead.LineAhead.{LineAhead}
 use Rattle.fux_judge.specs.GaugeStates.{IsAheadOf}
-use Rattle.fux_judge.proofs.FourLemmas.{each_of_four}
+use Rattle.rule_law.proofs.FourLemmas.{each_of_four}
 use Rattle.fux_judge.proofs.ahead.all_ahead_at_start.Goals as goal
 
 pub returns : goal.returns

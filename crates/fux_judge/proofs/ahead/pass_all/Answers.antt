@@ -1,13 +1,13 @@
 use Rattle.std.proofs.Common.{◌≡◌, ◌+◌, ◌∷◌, ◌++◌, [], ℕ, length, get_or, ap, sym, ◌∙◌, arith, length-set, subst}
 use Rattle.std.proofs.lemmas.List.{length-append}
-use Rattle.std.proofs.lemmas.Option.{slice_get-get_or, slice_get_within}
+use Rattle.std.proofs.lemmas.Option.{slice_get-get_or}
 use Rattle.fux_grid.specs.Exercises.{IsFree}
 use Rattle.fux_grid.specs.Menus.{IsInMenu}
 use Rattle.fux_judge.specs.declared.ahead.LineAhead.{LineAhead}
 use Rattle.fux_judge.proofs.Alive.{prefix_before}
 use Rattle.fux_judge.specs.GaugeStates.{IsAheadOf}
 use Rattle.fux_judge.proofs.LeastLaws.{last_in_menu}
-use Rattle.fux_judge.proofs.FourLemmas.{between_more}
+use Rattle.rule_law.proofs.FourLemmas.{between_more}
 use Rattle.fux_judge.proofs.ahead.pass_all.Goals as goal
 
 pub loop-v-init : goal.loop-v-init
@@ -36,9 +36,10 @@ loop-v-preserved c = record {
       let before = c.loop-v.invariant.each p here are valid prefix in
       let none : LineAhead = record { starts = 0; last_high = 0; highest = 0 } in
       let old = get_or ahead v none in
-      between_more Before From v ahead c.pass.new.ahead (omega (arith, c.loop-v-test.true, c.loop-v.invariant.long))
-      (λ free. c.pass.ensures col menu (sym c.cell_of.ensures) free
-      ((before v old (slice_get-get_or ahead v none (omega (arith, c.loop-v-test.true, c.loop-v.invariant.long)))).1 (omega arith) free))
+      let within : v < length ahead = omega (arith, c.loop-v-test.true, valid.most_voices, c.loop-v.invariant.long) in
+      between_more Before From v ahead c.pass.new.ahead within
+      (λ free. c.pass.ensures col menu (sym c.cell_of-cell.ensures) free
+      ((before v old (slice_get-get_or ahead v none within)).1 (omega arith) free))
       before;
 }
 
@@ -46,8 +47,7 @@ pub returns : goal.returns
 returns c = λ p here are valid prefix v ahead free is.
     let ex = c.args.ex.now in
     let col = c.args.column.now in
-    let inside = slice_get_within c.loop-v.ahead v ahead is in
     let P : ℕ → Type 0 = λ n. IsAheadOf ex v n ahead in
     let size : c.args.i + 1 ≡ length (p ++ col ∷ []) = ap (λ n. n + 1) (sym here) ∙ sym (length-append p (col ∷ [])) in
     subst P size ((c.loop-v.invariant.each p here are valid prefix v ahead is).0
-    (omega (arith, inside, c.loop-v-test.false, c.loop-v.invariant.long)) free)
+    (omega (arith, free.there, c.loop-v-test.false)) free)

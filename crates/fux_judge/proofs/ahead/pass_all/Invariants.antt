@@ -3,7 +3,7 @@ use Rattle.fux_grid.specs.declared.cell.Cell.{Cell}
 use Rattle.fux_grid.specs.Exercises.{IsFree, IsValid}
 use Rattle.rule_law.specs.Prefixes.{IsPrefix}
 use Rattle.fux_judge.specs.GaugeStates.{AreAheadOf, IsAheadOf}
-use Rattle.fux_judge.proofs.FourLemmas.{AreBetween}
+use Rattle.rule_law.proofs.FourLemmas.{AreBetween}
 use Rattle.fux_judge.proofs.ahead.pass_all.Given as goal
 
 abbrev pub invariant-loop-v : goal.invariant-loop-v

@@ -1,12 +1,14 @@
-use Rattle.std.proofs.Common.{◌≡◌, ◌∷◌, ℕ, length, get_or, ◌∙◌, arith, length-set, subst}
-use Rattle.std.proofs.lemmas.List.{length-map}
+use Rattle.std.proofs.Common.{◌≡◌, ◌<◌, ◌∷◌, ℕ, List, length, get_or, sym, ◌∙◌, inl, inr, arith, length-set, subst}
+use Rattle.std.proofs.lemmas.Bool.{cases_lt}
+use Rattle.std.proofs.lemmas.List.{get_or_past, length-map}
 use Rattle.std.proofs.lemmas.Option.{slice_get-get_or, slice_get_within}
 use Rattle.fux_grid.specs.declared.cell.Cell.{Cell}
+use Rattle.fux_grid.specs.declared.cell.Cell.TheVariants.{Rest}
 use Rattle.fux_grid.specs.Cells.{cell_in}
 use Rattle.fux_grid.specs.Columns.{line}
 use Rattle.fux_judge.specs.declared.gauges.LineGauges.{LineGauges}
 use Rattle.fux_judge.specs.GaugeStates.{IsGaugesOf}
-use Rattle.fux_judge.proofs.FourLemmas.{between_more}
+use Rattle.rule_law.proofs.FourLemmas.{between_more}
 use Rattle.fux_judge.proofs.gauges.gauge_all.Goals as goal
 
 pub loop-v-init : goal.loop-v-init
@@ -24,13 +26,28 @@ loop-v-preserved c = record {
       let long : length (line v behind) ≡ c.args.i = length-map behind (λ col. cell_in col v) ∙ here in
       let before = c.loop-v.invariant.each behind here are in
       let old = get_or kept v c.index-kept-v.result in
-      between_more Before From v kept c.gauge.new.kept (omega (arith, c.loop-v-test.true, c.loop-v.invariant.long))
+      let within : v < length kept = omega (arith, c.loop-v-test.true, c.min-v-end.ensures, c.loop-v.invariant.long) in
+      between_more Before From v kept c.gauge.new.kept within
       (subst Grown c.cell_of.ensures (c.gauge.ensures (line v behind) long
-      ((before v old (slice_get-get_or kept v c.index-kept-v.result (omega (arith, c.loop-v-test.true, c.loop-v.invariant.long)))).1 (omega arith))))
+      ((before v old (slice_get-get_or kept v c.index-kept-v.result within)).1 (omega arith))))
       before;
 }
 
+-- a line behind the last cell has a rest, which changes no gauge
 pub returns : goal.returns
 returns c = λ behind here are v kept is.
+    let each = c.loop-v.invariant.each behind here are v kept is in
     let inside = slice_get_within c.loop-v.kept v kept is in
-    (c.loop-v.invariant.each behind here are v kept is).0 (omega (arith, inside, c.loop-v-test.false, c.loop-v.invariant.long))
+    elim (cases_lt v c.loop-v.v) [
+      | inl before ↦ each.0 before
+      | inr from ↦
+          let Grown : Cell → Type 0 = λ cell. IsGaugesOf (cell ∷ line v behind) kept in
+          subst Grown
+          (sym (get_or_past c.args.column.now v Rest
+          (omega (arith, from, inside, c.loop-v.invariant.long, c.loop-v-test.false, c.min-v-end.ensures))))
+          (resting (line v behind) kept (each.1 from))
+    ]
+  where
+    resting : (cells : List Cell) (kept : LineGauges) → IsGaugesOf cells kept → IsGaugesOf (Rest ∷ cells) kept
+    resting cells kept is =
+        record { climax = is.climax; compass = is.compass; leaps = is.leaps; strikes = is.strikes }

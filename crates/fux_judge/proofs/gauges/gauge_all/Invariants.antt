@@ -2,7 +2,7 @@ use Rattle.std.proofs.Common.{◌≡◌, ◌∷◌, List, length}
 use Rattle.fux_grid.specs.declared.cell.Cell.{Cell}
 use Rattle.fux_grid.specs.Columns.{line}
 use Rattle.fux_judge.specs.GaugeStates.{AreGaugesOf, IsGaugesOf}
-use Rattle.fux_judge.proofs.FourLemmas.{AreBetween}
+use Rattle.rule_law.proofs.FourLemmas.{AreBetween}
 use Rattle.fux_judge.proofs.gauges.gauge_all.Given as goal
 
 abbrev pub invariant-loop-v : goal.invariant-loop-v

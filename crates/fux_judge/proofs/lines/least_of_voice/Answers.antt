@@ -8,7 +8,7 @@ use Rattle.fux_judge.specs.declared.gauges.LineGauges.{LineGauges}
 use Rattle.fux_judge.specs.Gauges.{cells_of_voice, least_of_line}
 use Rattle.fux_judge.specs.GaugeStates.{IsAheadOf, IsGaugesOf}
 use Rattle.fux_judge.proofs.LeastLaws.{free_voice, length-cells}
-use Rattle.fux_judge.proofs.FourLemmas.{one_of_four}
+use Rattle.rule_law.proofs.FourLemmas.{one_of_four}
 use Rattle.fux_judge.proofs.lines.least_of_voice.Goals as goal
 
 pub returns-clause-value : goal.returns-clause-value

@@ -17,7 +17,7 @@ loop-bits-preserved c = λ p after on.
     ∙ ap (λ b. b || test (get_or c.sets_of-sets.result.now c.loop-bits.bits-index 0)) (c.loop-bits.invariant p after on)
     ∙ third_kept ex p col place _
     (sym (c.breaks_late.ensures refl p col
-    (c.noted-part.ensures p (sym after.state.newest.count) after.state.past.rhythm)
+    (c.note.ensures p (sym after.state.newest.count) after.state.past.rhythm)
     (c.with-newest.ensures.newest ex.voices p (omega (arith, c.requires.readable.valid.most_voices)) c.requires.full
     after.state.newest) on (third_among (length p) place (ap (λ n. 8 * (n / 8)) after.state.newest.count)))
     ∙ c.if-breaks_late.false)

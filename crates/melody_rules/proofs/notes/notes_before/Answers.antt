@@ -12,9 +12,9 @@ loop-j-init c =
 
 pub loop-j-preserved : goal.loop-j-preserved
 loop-j-preserved c =
-    let P : List Cell → Type 0 = λ cells. IsNotesOf cells c.noted-notes.result in
+    let P : List Cell → Type 0 = λ cells. IsNotesOf cells c.note.new.notes in
     let here : c.loop-j.j < length c.args.score.now.columns = omega arith in
     let more = line-more c.args.score.now.columns c.args.v c.loop-j.j here in
     let cell = ap (λ d. d ∷ line c.args.v (earlier c.args.score.now.columns c.loop-j.j)) c.cell.ensures in
-    subst P (cell ∙ sym more) (c.noted-notes.ensures (line c.args.v (earlier c.args.score.now.columns c.loop-j.j))
+    subst P (cell ∙ sym more) (c.note.ensures (line c.args.v (earlier c.args.score.now.columns c.loop-j.j))
     c.loop-j.invariant)

@@ -2,7 +2,7 @@ use Rattle.std.proofs.Common.{ℕ}
 use Rattle.fux_grid.specs.Columns.{line, earlier}
 use Rattle.melody_rules.specs.declared.notes.VoiceNotes.{VoiceNotes}
 use Rattle.melody_rules.specs.Notes.{IsNotesOf}
-use Rattle.melody_rules.proofs.VoiceLemmas.{each_of_four}
+use Rattle.rule_law.proofs.FourLemmas.{each_of_four}
 use Rattle.melody_rules.proofs.voices.all_notes_before.Goals as goal
 
 pub returns : goal.returns

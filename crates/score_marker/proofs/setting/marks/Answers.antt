@@ -19,7 +19,7 @@ pub loop-i-preserved : goal.loop-i-preserved
 loop-i-preserved c =
     let s = c.args.score.now.columns in
     let place = marks_of_place (breaks_of c.args.ex.now s) sets_in_order rules_read in
-    let P : List (List Cell) → Type 0 = λ p. IsPastOf c.args.ex.now p c.with-past.result in
+    let P : List (List Cell) → Type 0 = λ p. IsPastOf c.args.ex.now p c.note.new.self in
     let here : c.loop-i.i < length s = omega arith in
     let column = ap (λ col. take c.loop-i.i s ++ col ∷ []) (c.as_slice.ensures.value ∙ c.column.ensures.value) in
     record {
@@ -29,7 +29,7 @@ loop-i-preserved c =
           ∙ ap (flat_map place) (sym (range-more c.loop-i.i));
       past =
           subst P (column ∙ sym (take_more s c.loop-i.i [] here))
-          (c.with-past.ensures (take c.loop-i.i s) (length-take-le c.loop-i.i s (omega (arith, here)))
+          (c.note.ensures (take c.loop-i.i s) (length-take-le c.loop-i.i s (omega (arith, here)))
           c.loop-i.invariant.past);
     }
 

@@ -17,7 +17,7 @@ loop-i-preserved c =
     let ex = c.args.ex.now in
     let sheet = c.args.sheet.now in
     let i = c.loop-i.i in
-    let P : List (List Cell) → Type 0 = λ p. IsPastOf ex p c.with-past.result in
+    let P : List (List Cell) → Type 0 = λ p. IsPastOf ex p c.note.new.self in
     let here : i < length s = omega arith in
     let column = ap (λ col. take i s ++ col ∷ []) (c.as_slice.ensures.value ∙ c.column.ensures.value) in
     record {
@@ -29,7 +29,7 @@ loop-i-preserved c =
           ∙ ap (λ places. c.args.charges.now.items ++ flat_map (charges_at_place ex sheet s) places) (sym (range-more i));
       past =
           subst P (column ∙ sym (take_more s i [] here))
-          (c.with-past.ensures (take i s) (length-take-le i s (omega (arith, here))) c.loop-i.invariant.past);
+          (c.note.ensures (take i s) (length-take-le i s (omega (arith, here))) c.loop-i.invariant.past);
     }
 
 pub returns : goal.returns

@@ -14,11 +14,11 @@ loop-j-preserved g c =
     let s = c.args.score.now.columns in
     let v = c.args.v in
     let j = c.loop-j.j in
-    let P : List Cell → Type 0 = λ cells. g.G.Gauge.is_of cells c.step-kept.result in
+    let P : List Cell → Type 0 = λ cells. g.G.Gauge.is_of cells c.step.new.s in
     let here : j < length s = omega arith in
     let cell = ap (λ d. d ∷ line v (earlier s j)) c.cell.ensures in
     subst P (cell ∙ sym (line-more s v j here))
-    (c.step-kept.ensures (line v (earlier s j)) (length-line s v j (omega arith)) c.loop-j.invariant)
+    (c.step.ensures (line v (earlier s j)) (length-line s v j (omega arith)) c.loop-j.invariant)
 
 pub returns : goal.returns
 returns g c =

@@ -16,11 +16,11 @@ returns-clause-state c = λ p st.
     let Newest : List Cell → Type 0 = λ x. AreNewestOf c.args.ex.now.voices (p ++ x ∷ []) c.push.new.self in
     let Gauges : List (List Cell) → Type 0 = λ h. AreGaugesOf h c.gauge_all.new.kept in
     let Ahead : List Cell → Type 0 = λ x. AreAheadOf c.args.ex.now (p ++ x ∷ []) c.pass_all.new.ahead in
-    let Parts : List Cell → Type 0 = λ x. IsPastOf c.args.ex.now (p ++ x ∷ []) c.with-self.result in
+    let Parts : List Cell → Type 0 = λ x. IsPastOf c.args.ex.now (p ++ x ∷ []) c.note.new.self in
     record {
       newest = subst Newest same (c.push.ensures.newest c.args.ex.now.voices p c.requires.valid.most_voices
           (sym full) st.newest);
-      past = subst Parts same (c.with-self.ensures p (sym st.newest.count) st.past);
+      past = subst Parts same (c.note.ensures p (sym st.newest.count) st.past);
       gauges = subst Gauges (ap (λ x. x ∷ reverse p) same ∙ sym (reverse-push p col))
           (c.gauge_all.ensures (reverse p) (length-reverse p ∙ sym st.newest.count) st.gauges);
       ahead = subst Ahead same (c.pass_all.ensures p (sym st.newest.count) st.ahead);

@@ -15,5 +15,5 @@ returns-in-Start c = λ cells here r.
 
 pub returns-in-Hold : goal.returns-in-Hold
 returns-in-Hold c = λ cells here r.
-    let P : Cell → Type 0 = λ d. IsLeapsOf (pitches (d ∷ cells)) c.args.s in
+    let P : Cell → Type 0 = λ d. IsLeapsOf (pitches (d ∷ cells)) c.args.s.now in
     subst P (sym c.in-Hold.is) (rw (pitches-hold c.in-Hold.field-0 cells) r)

@@ -8,12 +8,12 @@ use Rattle.melody_rules.proofs.gauges.strikes.Q20Gauge.step.Goals as goal
 
 pub returns-in-Start : goal.returns-in-Start
 returns-in-Start c = λ cells here r.
-    let P : Cell → Type 0 = λ d. IsStrikesOf (pitches (d ∷ cells)) c.with_note.result in
+    let P : Cell → Type 0 = λ d. IsStrikesOf (pitches (d ∷ cells)) c.strike.new.kept in
     subst P (sym c.in-Start.is)
-    (c.with_note.ensures (pitches cells) (omega
+    (c.strike.ensures (pitches cells) (omega
     (arith, length-pitches cells, here, c.requires.place, c.requires.valid.most_bars)) r)
 
 pub returns-in-Hold : goal.returns-in-Hold
 returns-in-Hold c = λ cells here r.
-    let P : Cell → Type 0 = λ d. IsStrikesOf (pitches (d ∷ cells)) c.args.s in
+    let P : Cell → Type 0 = λ d. IsStrikesOf (pitches (d ∷ cells)) c.args.s.now in
     subst P (sym c.in-Hold.is) (rw (pitches-hold c.in-Hold.field-0 cells) r)

@@ -4,7 +4,7 @@ use Rattle.std.specs.Int.{from_bool}
 use Rattle.fux_pitch.specs.Pitch.{same_pitch}
 use Rattle.rule_law.proofs.MenuStarts.{as_number-bound}
 use Rattle.melody_rules.proofs.StrikeLemmas.{beyond-bound, count-bound, strike}
-use Rattle.melody_rules.proofs.gauges.strikes.with_note.Goals as goal
+use Rattle.melody_rules.proofs.gauges.strikes.strike.Goals as goal
 
 pub returns : goal.returns
 returns c = λ ps few r.

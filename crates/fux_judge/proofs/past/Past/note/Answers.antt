@@ -1,7 +1,7 @@
 use Rattle.fux_judge.proofs.StateLemmas.{parts_of}
-use Rattle.fux_judge.proofs.past.Past.with.Goals as goal
+use Rattle.fux_judge.proofs.past.Past.note.Goals as goal
 
 pub returns : goal.returns
 returns c = λ p long is.
-    let parts = c.noted.ensures p long (parts_of is) in
+    let parts = c.note.ensures p long (parts_of is) in
     record { melody = parts.0; rhythm = parts.1.1.1.0 }

@@ -2,7 +2,7 @@ use Rattle.std.proofs.Common.{◌∷◌, sym, subst}
 use Rattle.fux_grid.specs.declared.cell.Cell.{Cell}
 use Rattle.melody_rules.specs.Notes.{IsNotesOf}
 use Rattle.melody_rules.proofs.LineLemmas.{notes-hold}
-use Rattle.melody_rules.proofs.notes.noted.Goals as goal
+use Rattle.melody_rules.proofs.notes.note.Goals as goal
 
 pub returns-in-Hold : goal.returns-in-Hold
 returns-in-Hold c = λ cells r.
