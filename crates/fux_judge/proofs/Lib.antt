@@ -19,6 +19,7 @@ pub mod Parts
 pub mod PruningLemmas
 pub mod QuietLemmas
 pub mod QuietLinks
+pub mod QuietTolls
 pub mod RoughLemmas
 pub mod SetLemmas
 pub mod ShapeLemmas

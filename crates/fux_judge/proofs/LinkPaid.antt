@@ -43,7 +43,7 @@ known row i h next =
 
 -- ---- an orderly prefix
 
-orderly_prefix : (ex : Exercise) → ex.cantus_voice < ex.voices → (p : List (List Cell)) (col : List Cell)
+pub orderly_prefix : (ex : Exercise) → ex.cantus_voice < ex.voices → (p : List (List Cell)) (col : List Cell)
     → GoesOn ex p (col ∷ []) → IsOrderlyPrefix ex p
 orderly_prefix ex there p col on =
     let prefix : IsPrefix ex p = prefix_before ex p col on.longer in
@@ -57,7 +57,7 @@ orderly_prefix ex there p col on =
 
 -- what is read of the last column and the new one is what is read of the new one in the whole list
 module _ (ex : Exercise) (p : List (List Cell)) (col : List Cell) (prefix : IsOrderlyPrefix ex p) where
-  read_near : {R : Type 0} (reads : Row R) → HasNearRow reads → reads (length p) (behind_of (last_column p)) col []
+  pub read_near : {R : Type 0} (reads : Row R) → HasNearRow reads → reads (length p) (behind_of (last_column p)) col []
       ≡ reading_of reads (p ++ col ∷ []) (length p)
   read_near reads near =
       ap (λ (r : Row _). r (length p) (behind_of (last_column p)) col []) near.is

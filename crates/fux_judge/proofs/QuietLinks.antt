@@ -146,7 +146,7 @@ module _ (ex : Exercise) (i : ℕ) (before : Option (List Cell)) (next : List Ce
         ∙ none_missing ex i next (quiet_inner ex i next quiet)
     of_rhythm its false e = ap (λ (r : Row ℕ). read r) (other_rhythm_toll toll between ex its e)
 
-    free : read (costs toll ex) ≡ 0
+    pub free : read (costs toll ex) ≡ 0
     free = at (crate_with_toll toll) refl
       where
         at : (crate : Option RuleCrate) → crate_with_toll toll ≡ crate → read (costs toll ex) ≡ 0

@@ -14,7 +14,7 @@ use crate::all_rules::AllRules;
 use crate::state::State;
 use fux_grid::Exercise;
 use penalty_sheet::{Sheet, weight};
-use rule_law::{LatePlaces, RuleCrate};
+use rule_law::{LatePlaces, RuleCrate, is_quiet};
 
 /// Where column `i` may settle what a late toll costs, as its crate says.
 #[inline(always)]
@@ -94,7 +94,8 @@ fn charges_of(toll: u8, sheet: &Sheet, ex: &Exercise, next: &State) -> u64
 }
 
 /// What the newest column settles of all late tolls. Each is asked by its own number, so that what
-/// depends on the number alone is settled before the program runs.
+/// depends on the number alone is settled before the program runs. Where neither a bar nor a note
+/// begins, Q16 alone may cost something.
 #[tactic(auto, unfolding(crate::specs::Rules::toll_at))]
 pub(crate) fn late_charges(sheet: &Sheet, ex: &Exercise, next: &State) -> u64
     requires valid { IsValid ex.now }
@@ -104,6 +105,10 @@ pub(crate) fn late_charges(sheet: &Sheet, ex: &Exercise, next: &State) -> u64
         (λ p col. sum_by (steps.toll_late ex.now sheet.now p col) late_tolls) result }
     ensures bound { result ≤ 94370400 }
 {
+    let i = next.newest.len - 1;
+    if is_quiet(i, next.newest.at(i, ex.voices as usize)) {
+        return charges_of(16, sheet, ex, next);
+    }
     charges_of(3, sheet, ex, next)
         + charges_of(4, sheet, ex, next)
         + charges_of(5, sheet, ex, next)

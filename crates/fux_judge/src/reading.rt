@@ -108,8 +108,5 @@ pub(crate) fn prices_now(rule: u8, m: &Moment<'_>) -> u64
         m.now }
     ensures bound { result ≤ 60000 }
 {
-    if m.exercise.relax.as_slice().is_empty() {
-        return 0;
-    }
     prices_for(sets_of(form_of(rule), m.exercise.voices), rule, m)
 }

@@ -163,9 +163,9 @@ pub(crate) fn next_unpruned<R: Rests>(
 {
     let before = node.state.before(exercise);
     let mut k = next_choice(menu, before, from, node.hint);
-    let mut tried = menu.lowest_alike(from.saturating_sub(1), k);
-    if from == 0 {
-        tried = 0;
+    let mut tried = 0;
+    if from > 0 {
+        tried = menu.lowest_alike(from - 1, k);
     }
     while k < menu.len() {
         let passed = passed_over(exercise, sheet, rests, node, menu, k, tried, best);

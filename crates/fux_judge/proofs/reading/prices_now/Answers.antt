@@ -1,16 +1,8 @@
-use Rattle.std.proofs.Common.{ap, sym, ◌∙◌}
-use Rattle.std.proofs.lemmas.Bool.{eqb-true}
-use Rattle.std.proofs.lemmas.List.{nil_from_length}
+use Rattle.std.proofs.Common.{ap, ◌∙◌}
 use Rattle.rule_law.specs.Forms.{sets_of}
 use Rattle.fux_judge.specs.Moments.{prices_then}
-use Rattle.fux_judge.proofs.SetLemmas.{prices_for_all, nothing_relaxed}
+use Rattle.fux_judge.proofs.SetLemmas.{prices_for_all}
 use Rattle.fux_judge.proofs.reading.prices_now.Goals as goal
-
-pub returns-then-is_empty-clause-value : goal.returns-then-is_empty-clause-value
-returns-then-is_empty-clause-value c = λ p after.
-    nothing_relaxed c.args.rule p c.args.m.now
-    (sym c.as_slice.ensures ∙ nil_from_length c.as_slice.result.now
-    (eqb-true _ 0 (sym c.is_empty.ensures ∙ c.if-is_empty.true)))
 
 pub returns-clause-value : goal.returns-clause-value
 returns-clause-value c = λ p after.

@@ -1,0 +1,117 @@
+-- Behind an orderly prefix a quiet column settles no late toll but Q16 (`pattern_alone`).
+use Rattle.std.proofs.Common.{◌≡◌, ◌<◌, ◌≤◌, ◌+◌, ◌*◌, ◌&&◌, ℕ, Bool, true, false, if◌then◌else◌, List, [], ◌∷◌, ◌++◌, length, refl, ap, sym, ◌∙◌, arith}
+use Rattle.std.specs.Prelude.{nat_le}
+use Rattle.std.specs.List.{sum_by}
+use Rattle.std.proofs.lemmas.Bool.{and_right}
+use Rattle.fux_grid.specs.declared.cell.Cell.{Cell}
+use Rattle.fux_grid.specs.declared.exercise.Exercise.{Exercise}
+use Rattle.fux_grid.specs.Exercises.{bar_of}
+use Rattle.rule_law.specs.Bars.{begins_bar, begins_inner_bar}
+use Rattle.rule_law.specs.Growth.{newly}
+use Rattle.rule_law.specs.Prefixes.{GoesOn}
+use Rattle.rule_law.specs.Quiet.{is_quiet, quiet_inner, quiet_slot}
+use Rattle.motion_rules.specs.Runs.{ends_four_bars}
+use Rattle.penalty_sheet.specs.declared.sheet.Sheet.{Sheet}
+use Rattle.penalty_sheet.specs.Weights.{weight_of}
+use Rattle.fux_judge.specs.Links.{is_toll_between, last_column}
+use Rattle.fux_judge.specs.Penalties.{new_toll}
+use Rattle.fux_judge.specs.Rules.{cost_at, costs, is_cost_settled, late_tolls, toll_at}
+use Rattle.fux_judge.specs.Steps.{sum_among, toll_late}
+use Rattle.fux_judge.proofs.LateLemmas.{tolls_are}
+use Rattle.fux_judge.proofs.LinkLemmas.{has_toll_row}
+use Rattle.fux_judge.proofs.LinkPaid.{orderly_prefix, read_near}
+use Rattle.fux_judge.proofs.QuietLinks.{free}
+use Rattle.fux_judge.proofs.StepPlaces.{zero_below}
+
+module _ (ex : Exercise) (there : ex.cantus_voice < ex.voices) (sheet : Sheet) (p : List (List Cell)) (col : List Cell)
+    (on : GoesOn ex p (col ∷ [])) (quiet : is_quiet (length p) col ≡ true) where
+  -- a toll of neighbors costs nothing at the column
+  free_here : (toll : ℕ) → is_toll_between toll ≡ true → new_toll ex sheet p col (length p) toll ≡ 0
+  free_here toll between =
+      let costless : cost_at toll ex (p ++ col ∷ []) (length p) ≡ 0 =
+      sym (read_near ex p col (orderly_prefix ex there p col on) (costs toll ex) (has_toll_row toll between ex))
+      ∙ free ex (length p) (last_column p) col quiet toll between in
+      nothing (newly (is_cost_settled toll ex) p col (length p)) (cost_at toll ex (p ++ col ∷ []) (length p))
+      (weight_of sheet toll) costless
+    where
+      nothing : (b : Bool) (n w : ℕ) → n ≡ 0 → (if b then n * w else 0) ≡ 0
+      nothing true n w e = ap (λ m. m * w) e ∙ none w
+        where
+          none : (w : ℕ) → 0 * w ≡ 0
+          none w = omega arith
+      nothing false n w e = refl
+
+  -- so it settles nothing of it, where the column itself is its only place
+  none_of_own : (toll count : ℕ) → is_toll_between toll ≡ true → count ≤ 1
+      → sum_among (length p) count (λ i. new_toll ex sheet p col i toll) ≡ 0
+  none_of_own toll count between few =
+      zero_below (λ k. new_toll ex sheet p col (length p + k) toll) count
+      (λ k h. at_place k (omega (arith, h, few)))
+    where
+      at_place : (k : ℕ) → k ≡ 0 → new_toll ex sheet p col (length p + k) toll ≡ 0
+      at_place k e =
+          ap (λ n. new_toll ex sheet p col n toll) (same k e) ∙ free_here toll between
+        where
+          same : (k : ℕ) → k ≡ 0 → length p + k ≡ length p
+          same k e = omega (arith, e)
+
+  -- and nothing of a toll that has no place
+  none_of_none : (toll count first : ℕ) → count ≡ 0
+      → sum_among first count (λ i. new_toll ex sheet p col i toll) ≡ 0
+  none_of_none toll count first e =
+      zero_below (λ k. new_toll ex sheet p col (first + k) toll) count (λ k h. absurd (omega (arith, h, e)))
+
+  at_most_one : (b : Bool) → (if b then 1 else 0) ≤ 1
+  at_most_one true = omega arith
+  at_most_one false = omega arith
+
+  no_bar : (b : Bool) → b ≡ false → (if b then 1 else 0) ≡ 0
+  no_bar b e = ap (λ t. if t then 1 else 0) e
+
+  thirds : toll_late ex sheet p col 3 ≡ 0
+  unfolding toll_at
+  thirds = none_of_none 3 _ (length p)
+      (no_bar (nat_le 3 ex.voices && begins_inner_bar ex (length p))
+      (and_right (nat_le 3 ex.voices) (begins_inner_bar ex (length p)) (quiet_inner ex (length p) col quiet)))
+
+  wide : toll_late ex sheet p col 4 ≡ 0
+  unfolding toll_at
+  wide = none_of_none 4 _ (length p) (no_bar (begins_bar (length p)) (quiet_slot (length p) col quiet))
+
+  doubled : toll_late ex sheet p col 5 ≡ 0
+  unfolding toll_at
+  doubled = none_of_none 5 _ (length p)
+      (no_bar (nat_le 3 ex.voices && begins_bar (length p))
+      (and_right (nat_le 3 ex.voices) (begins_bar (length p)) (quiet_slot (length p) col quiet)))
+
+  straying : toll_late ex sheet p col 6 ≡ 0
+  unfolding toll_at
+  straying = none_of_own 6 _ refl (at_most_one true)
+
+  inner : toll_late ex sheet p col 12 ≡ 0
+  unfolding toll_at
+  inner = none_of_own 12 _ refl (at_most_one (nat_le 3 ex.voices))
+
+  runs : toll_late ex sheet p col 14 ≡ 0
+  unfolding toll_at
+  runs = none_of_none 14 _ (length p)
+      (no_bar (ends_four_bars (length p)) (ap (λ b. b && nat_le 4 (bar_of (length p))) (quiet_slot (length p) col quiet)))
+
+  ligatures : toll_late ex sheet p col 15 ≡ 0
+  unfolding toll_at
+  ligatures = none_of_none 15 _ (length p)
+      (no_bar (begins_inner_bar ex (length p)) (quiet_inner ex (length p) col quiet))
+
+  pub pattern_alone : toll_late ex sheet p col 16 ≡ sum_by (toll_late ex sheet p col) late_tolls
+  pattern_alone =
+      omega (
+        arith,
+        ap (sum_by (toll_late ex sheet p col)) tolls_are,
+        thirds,
+        wide,
+        doubled,
+        straying,
+        inner,
+        runs,
+        ligatures,
+      )
