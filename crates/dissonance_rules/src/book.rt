@@ -62,6 +62,7 @@ impl RuleCrate for Dissonance {
 
     /// Of those of S15 and S27 the places at which the clash isn't told yet; all of the other
     /// rules'.
+    #[inline(always)]
     fn places_left(newest: &NewestColumns, rule: u8, ex: &Exercise) -> LatePlaces {
         if !is_told_later(rule) {
             return Dissonance::places_settled(rule, ex, newest.len - 1);

@@ -81,6 +81,7 @@ fn has_places_in(rule: u8, ex: &Exercise) -> bool
 }
 
 /// The places of S15 and S27.
+#[inline(always)]
 pub(crate) fn passing_places(rule: u8, ex: &Exercise, i: usize) -> LatePlaces
     requires place { i < columns_in ex.now }
     requires valid { IsValid ex.now }

@@ -78,6 +78,7 @@ fn all_told_until(newest: &NewestColumns, ex: &Exercise, first: usize, end: usiz
 
 /// Those of the places of S15 or S27 at which, as the newest columns tell, the newest one may
 /// settle a break.
+#[inline(always)]
 pub(crate) fn passing_left(newest: &NewestColumns, rule: u8, ex: &Exercise) -> LatePlaces
     requires valid { IsValid ex.now }
     requires begun { 0 < newest.now.len }

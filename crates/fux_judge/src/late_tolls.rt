@@ -47,6 +47,7 @@ fn places_of(toll: u8, ex: &Exercise, next: &State) -> LatePlaces
 
 /// What the newest column settles of a late toll at one of its places, without its weight, as its
 /// crate says.
+#[inline(always)]
 #[tactic(auto, unfolding(crate::specs::Rules::toll_at))]
 fn cost_at(toll: u8, ex: &Exercise, next: &State, place: usize) -> u32
     requires late { is_late_toll toll ≡ true }
@@ -61,6 +62,7 @@ fn cost_at(toll: u8, ex: &Exercise, next: &State, place: usize) -> u32
 }
 
 /// What it settles there by the toll's weight.
+#[inline(always)]
 fn charge_at(toll: u8, sheet: &Sheet, ex: &Exercise, next: &State, place: usize) -> u64
     requires number { IsTrue (nat_le 1 toll && (nat_le toll greatest_toll && is_late_toll toll)) }
     requires valid { IsValid ex.now }

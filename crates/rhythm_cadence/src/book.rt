@@ -78,6 +78,7 @@ impl RuleCrate for Rhythm {
 
     /// S3 at the beginning of the column's bar, S22 at the column itself, S25 at the column before
     /// it or itself.
+    #[inline(always)]
     fn breaks_late(
         part: &BarShapes,
         newest: &NewestColumns,

@@ -107,6 +107,7 @@ fn has_none_left(possible: u16, ex: &Exercise, v: u8) -> bool
 }
 
 /// S3 of one voice: whether it has left the shapes of the newest bar.
+#[inline(always)]
 fn breaks_shape(part: &BarShapes, ex: &Exercise, v: u8) -> bool
     requires { v < 4 }
     ensures { (p : Columns) → 0 < length p → IsShapesOf ex.now p part.now →
@@ -117,6 +118,7 @@ fn breaks_shape(part: &BarShapes, ex: &Exercise, v: u8) -> bool
 }
 
 /// S3: whether the one voice of a set has left the shapes of the newest bar.
+#[inline(always)]
 pub(crate) fn breaks_shapes(part: &BarShapes, ex: &Exercise, voices: VoiceSet) -> bool
     ensures { (p : Columns) → 0 < length p → IsShapesOf ex.now p part.now →
         result ≡ have_left ex.now voices.bits p }
