@@ -1,20 +1,22 @@
 -- What a walk over a menu passes over after a node's path is no better than the best leaf so far: a
--- column that strays or dies (`stray_no_better`), and one that is pruned (`pruned_no_better`).
+-- column that strays or dies (`stray_no_better`), as all do but one where a column of holds follows
+-- (`other_no_better`), and one that is pruned (`pruned_no_better`).
 use Rattle.std.specs.Prelude.{IsSomeAnd}
-use Rattle.std.proofs.Common.{◌≡◌, inl, inr, ◌+◌, ◌≤◌, Option, ℕ, Bool, List, [], reverse, slice_index_or, ap, sym, ◌∙◌, subst, true, arith}
+use Rattle.std.proofs.Common.{◌≡◌, inl, inr, ◌+◌, ◌<◌, ◌≤◌, ⊥, All, Option, ℕ, Bool, List, [], length, reverse, slice_index_or, ap, sym, ◌∙◌, subst, true, arith}
 use Rattle.std.specs.List.{list_any}
 use Rattle.fux_grid.specs.declared.cell.Cell.{Cell}
 use Rattle.fux_grid.specs.declared.exercise.Exercise.{Exercise}
 use Rattle.fux_grid.specs.Columns.{newest_column, ColumnFollows}
-use Rattle.fux_grid.specs.Menus.{menu_of}
+use Rattle.fux_grid.specs.Menus.{IsAscending, menu_of}
 use Rattle.penalty_sheet.specs.declared.sheet.Sheet.{Sheet}
 use Rattle.fux_judge.specs.Penalties.{newly_broken, newly_paid}
 use Rattle.fux_judge.specs.Pruning.{IsPruned}
 use Rattle.fux_judge.specs.Rules.{rules_read}
 use Rattle.species_space.specs.declared.node.Node.{Node}
-use Rattle.species_space.specs.Blocks.{StraysOrDies}
+use Rattle.species_space.specs.Blocks.{HasOneWidth, IsOnlyHolds, StraysOrDies}
 use Rattle.species_space.specs.Nodes.{IsNodeOf}
 use Rattle.species_space.specs.Paths.{IsNoBetter, column_at, prefix_at}
+use Rattle.species_space.proofs.Passing.{only_one_follows}
 use Rattle.species_space.proofs.Children.{as_long, no_better_if_costly, no_better_if_dead, some_lower}
 
 module _ (ex : Exercise) (sheet : Sheet) (node : Node) (path : List ℕ) (at : IsNodeOf ex sheet node path) where
@@ -34,6 +36,16 @@ module _ (ex : Exercise) (sheet : Sheet) (node : Node) (path : List ℕ) (at : I
       (stray (subst (λ (b : List Cell). ColumnFollows b col) (sym e)
       (subst (λ (c : List Cell). ColumnFollows (newest_column (reverse (prefix_at ex path))) c) (sym same) follows))
       (prefix_at ex path) (sym at.state.newest.count)))
+
+  -- where a column of a menu of holds follows, each other one strays
+  pub other_no_better : (menu : List (List Cell)) (hint k : ℕ) (chained : Bool) (best : Option ℕ) (before : List Cell)
+      → menu ≡ menu_of ex node.state.newest.len → before ≡ newest_column (reverse (prefix_at ex path))
+      → All IsOnlyHolds menu → IsAscending menu → HasOneWidth menu → hint < length menu
+      → ColumnFollows before (slice_index_or menu hint []) → k < length menu → (k ≡ hint → ⊥)
+      → IsNoBetter chained ex sheet path best k
+  other_no_better menu hint k chained best before is same held order full there follows within differ =
+      stray_no_better k chained best before (slice_index_or menu k []) same (column_of_menu menu k is)
+      (λ its. absurd (differ (only_one_follows menu before k hint held order full within there its follows)))
 
   pub pruned_no_better : (k : ℕ) (chained : Bool) (best limit : Option ℕ) (col : List Cell) → col ≡ column_at ex path k
       → ((cost : ℕ) → IsSomeAnd limit (λ most. most ≤ cost)

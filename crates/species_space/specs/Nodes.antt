@@ -1,6 +1,8 @@
 -- What stands for a path while a search is there.
-use Rattle.std.specs.Prelude.{◌≡◌, ℕ, ◌*◌, ◌≤◌, Bool, true, List, Option, length}
+use Rattle.std.specs.Prelude.{◌≡◌, ℕ, ◌*◌, ◌≤◌, Bool, true, List, Option, length, reverse}
+use Rattle.fux_grid.specs.declared.cell.Cell.{Cell}
 use Rattle.fux_grid.specs.declared.exercise.Exercise.{Exercise}
+use Rattle.fux_grid.specs.Columns.{newest_column}
 use Rattle.penalty_sheet.specs.declared.sheet.Sheet.{Sheet}
 use Rattle.fux_judge.specs.Gauges.{least_of}
 use Rattle.fux_judge.specs.Penalties.{paid}
@@ -27,3 +29,8 @@ HasNoBetter chained ex sheet node best k =
 abbrev pub PassesOver : Bool → Exercise → Sheet → Node → Option ℕ → ℕ → ℕ → Type 0
 PassesOver chained ex sheet node best from to =
     (path : List ℕ) → IsNodeOf ex sheet node path → ArePassed chained ex sheet path best from to
+
+-- the column is the last one of the prefix, at whatever path the node stands
+abbrev pub ComesBefore : Exercise → Sheet → Node → List Cell → Type 0
+ComesBefore ex sheet node before =
+    (path : List ℕ) → IsNodeOf ex sheet node path → before ≡ newest_column (reverse (prefix_at ex path))

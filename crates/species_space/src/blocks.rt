@@ -9,6 +9,7 @@ ghost use Rattle.fux_grid.specs.Menus.{IsAscending};
 ghost use Rattle.species_space.specs.Blocks.{Agree, AreBlocksOf, HasOneWidth, IsNumberAt, IsBlockEnd, IsCut, IsHeldNext, IsNext, IsOnlyHolds, IsWithoutHolds, KeepsCell, columns_seen, same_cell};
 
 use fux_grid::{Cell, Column, cell_of, cells_follow};
+use rule_law::begins_bar;
 
 /// How a menu is cut into blocks of equal length, for each voice into blocks of its own, over each
 /// of which the voice keeps its cell.
@@ -139,6 +140,17 @@ impl<'a> MenuView<'a> {
             }
         }
         4
+    }
+
+    /// Whether this column, in a menu of holds, may follow at column `i`, where no bar begins.
+    #[inline]
+    pub(crate) fn goes_on(&self, i: usize, before: &[Cell], k: usize) -> bool
+        ensures { IsTrue result → IsHeldNext self.now before.now k }
+    {
+        if begins_bar(i) {
+            return false;
+        }
+        self.is_held(before, k)
     }
 
     /// Whether this column, in a menu of holds, may follow.

@@ -5,8 +5,8 @@ ghost use Rattle.std.specs.Prelude.{◌≡◌, ◌<◌, ◌≤◌, ◌+◌, ◌^
 ghost use Rattle.std.specs.Bool.{OnFalse};
 ghost use Rattle.fux_grid.specs.Exercises.{IsValid, columns_in};
 ghost use Rattle.fux_grid.specs.Menus.{menu_of};
-ghost use Rattle.species_space.specs.Blocks.{AreWithin, IsCut, PassesDead, columns_seen};
-ghost use Rattle.species_space.specs.Nodes.{HasNoBetter, IsNodeOf, PassesOver};
+ghost use Rattle.species_space.specs.Blocks.{AreWithin, IsCut, IsHeldNext, PassesDead, columns_seen};
+ghost use Rattle.species_space.specs.Nodes.{ComesBefore, HasNoBetter, IsNodeOf, PassesOver};
 ghost use Rattle.species_space.specs.Task.{IsViewOf, Task};
 ghost use Rattle.tree_search.specs.Space.{IsInner};
 
@@ -140,6 +140,39 @@ fn passed_over<R: Rests>(
     Some((menu.end_of_agreement(k, voices), voices - 1))
 }
 
+/// The first number, from this one on, of a column that may follow and has a rest, where the hint's
+/// column may in a menu of holds: no other one may, and its cells aren't asked.
+fn next_held<R: Rests>(
+    exercise: &Exercise,
+    sheet: &Sheet,
+    rests: &R,
+    node: &Node,
+    menu: &MenuView<'_>,
+    before: &[Cell],
+    from: usize,
+    best: Option<u64>,
+) -> usize
+    requires valid { IsValid exercise.now }
+    requires rests { R.task rests.now ≡ record { exercise = exercise.now; sheet = sheet.now } }
+    requires node { IsInner (IsNodeOf exercise.now sheet.now node.now) (columns_in exercise.now) }
+    requires menu { IsViewOf exercise.now node.now.state.newest.len menu.now }
+    requires before { ComesBefore exercise.now sheet.now node.now before.now }
+    requires held { IsHeldNext menu.now before.now node.now.hint }
+    requires within { from ≤ length (columns_seen menu.now) }
+    ensures onward { from ≤ result }
+    ensures within { result ≤ length (columns_seen menu.now) }
+    ensures passed { PassesOver R.chained exercise.now sheet.now node.now best from result }
+{
+    let hint = node.hint;
+    if from > hint {
+        return menu.len();
+    }
+    if !rests.may_be_better(node, hint, best) {
+        return menu.len();
+    }
+    hint
+}
+
 /// The first number, from this one on, of a column that may follow, has a rest, and isn't pruned by
 /// the cells of its lowest voices: they settle no strict break and don't cost too much to be better
 /// than the best. The menu's length where there is none.
@@ -162,6 +195,9 @@ pub(crate) fn next_unpruned<R: Rests>(
     ensures passed { PassesOver R.chained exercise.now sheet.now node.now best from result }
 {
     let before = node.state.before(exercise);
+    if menu.goes_on(node.state.len(), before, node.hint) {
+        return next_held(exercise, sheet, rests, node, menu, before, from, best);
+    }
     let mut k = next_choice(menu, before, from, node.hint);
     let mut tried = 0;
     if from > 0 {

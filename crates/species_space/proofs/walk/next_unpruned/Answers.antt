@@ -5,6 +5,12 @@ use Rattle.species_space.proofs.Passing.{passed_on}
 use Rattle.species_space.proofs.WalkSteps.{column_of_menu, stray_no_better}
 use Rattle.species_space.proofs.walk.next_unpruned.Goals as goal
 
+pub next_held-requires-clause-before : goal.next_held-requires-clause-before
+next_held-requires-clause-before g c = λ path at. c.before-before.ensures _ at.state
+
+pub next_held-requires-clause-held : goal.next_held-requires-clause-held
+next_held-requires-clause-held g c = c.goes_on.ensures c.if-goes_on.true
+
 pub loop-k-init : goal.loop-k-init
 loop-k-init g c =
     let ex = c.args.exercise.now in
