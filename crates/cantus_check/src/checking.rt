@@ -4,6 +4,7 @@ ghost use Rattle.std.specs.Prelude.{◌≡◌, ◌≢◌, ◌+◌, ◌≤◌, �
 ghost use Rattle.cantus_check.specs.Answers.{Answers, unopened, unstarted};
 ghost use Rattle.cantus_check.specs.Topics.{cantus_subject};
 ghost use Rattle.cert_file.specs.Judgments.{AcceptsValid};
+ghost use Rattle.cert_file.specs.Nearness.{IsReadNear};
 ghost use Rattle.cantus_text.specs.Heads.{Said};
 ghost use Rattle.fux_port.specs.Counts.{Rose};
 ghost use Rattle.fux_port.specs.Files.{IsMissing};
@@ -50,6 +51,10 @@ pub fn check_cantus_file<F: Shelf>(
     ensures served { ServesWhole (F.serves shelf.old) name.now 1073741824
         → IfErr result (λ fault. fault ≢ CantusFault.Unreadable) }
     ensures little { F.given shelf.new ≤ F.given shelf.old + 1073741825 }
+
+    // Where a claim is refused or a line is wrong, no more than a piece is read beyond that line.
+    ensures near { IfOk result (IsReadNear (cantus_subject space.now) (F.files shelf.old) name.now
+        (F.given shelf.old) (F.given shelf.new)) }
 
     ensures files { F.files shelf.new ≡ F.files shelf.old }
     ensures faults { F.faults shelf.old ≤ F.faults shelf.new }

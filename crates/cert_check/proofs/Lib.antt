@@ -6,3 +6,4 @@ pub mod HeadLemmas
 pub mod RefusedLemmas
 pub mod StartLemmas
 pub mod ToldEntries
+pub mod NearLemmas

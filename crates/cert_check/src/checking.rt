@@ -5,7 +5,9 @@ ghost use Rattle.cert_text.specs.declared.answers.CertHead.{CertHead as AHead};
 ghost use Rattle.cert_check.specs.Answers.{Answers, IsHeadless, unopened, unstarted};
 ghost use Rattle.cert_check.specs.Entering.{unclosed};
 ghost use Rattle.cert_file.specs.Checking.{opened_at};
-ghost use Rattle.cert_check.specs.Settings.{AcceptsValid, IsOpeningText};
+ghost use Rattle.cert_file.specs.Nearness.{IsReadNear, ReadsNear};
+ghost use Rattle.cert_file.specs.Readings.{longest_piece};
+ghost use Rattle.cert_check.specs.Settings.{AcceptsValid, IsOpeningText, setting_subject};
 ghost use Rattle.cert_check.specs.Starts.{IsStarted};
 ghost use Rattle.cert_file.specs.Subjects.{IsOpened};
 ghost use Rattle.floor_tables.specs.Tables.{AreNarrow};
@@ -67,6 +69,13 @@ pub fn check_file<R: Threads + Sync, F: Shelf>(
         → IfErr result (λ fault. fault ≢ CheckFault.Unreadable) }
     ensures little { F.given shelf.new ≤ F.given shelf.old + 1073741825 }
 
+    // Where a claim or a number is refused, or a line is wrong, no more than a piece is read beyond
+    // that line; numbers that are stated are judged when all of them are read.
+    ensures near { IfOk result (IsReadNear (setting_subject (record {
+      exercise = ex.now;
+      sheet = sheet.now;
+    })) (F.files shelf.old) name.now (F.given shelf.old) (F.given shelf.new)) }
+
     // A menu that is too wide keeps the claims from being judged, and nothing else is told to be
     // too wide.
     ensures narrow { AreNarrow ex.now
@@ -99,13 +108,17 @@ fn check_first<R: Threads + Sync, F: Shelf>(
 ) -> Result<Verdict, CheckFault>
     requires valid { IsValid ex.now }
     requires started { IsStarted ex.now (F.files shelf.old) name.now Form.First head pieces }
-    requires limit { pieces.offset ≤ 1073741824 }
+    requires limit { pieces.offset ≤ longest_piece }
     ensures answers { Answers ex.now sheet.now (F.files shelf.old) name.now
         (Rose (F.faults shelf.old) (F.faults shelf.new)) result }
     ensures narrow { OnOk result (AreNarrow ex.now) }
     ensures served { ServesWhole (F.serves shelf.old) name.now 1073741824
         → IfErr result (λ fault. fault ≢ CheckFault.Unreadable) }
     ensures little { F.given shelf.new + pieces.offset ≤ F.given shelf.old + 1073741825 }
+    ensures near { IfOk result (IsReadNear (setting_subject (record {
+      exercise = ex.now;
+      sheet = sheet.now;
+    })) (F.files shelf.old) name.now (F.given shelf.old) (F.given shelf.new + pieces.offset)) }
     ensures files { F.files shelf.new ≡ F.files shelf.old }
     ensures faults { F.faults shelf.old ≤ F.faults shelf.new }
 {
@@ -129,13 +142,17 @@ fn check_second<R: Threads + Sync, F: Shelf>(
 ) -> Result<Verdict, CheckFault>
     requires valid { IsValid ex.now }
     requires started { IsStarted ex.now (F.files shelf.old) name.now Form.Second head pieces }
-    requires limit { pieces.offset ≤ 1073741824 }
+    requires limit { pieces.offset ≤ longest_piece }
     ensures answers { Answers ex.now sheet.now (F.files shelf.old) name.now
         (Rose (F.faults shelf.old) (F.faults shelf.new)) result }
     ensures narrow { OnOk result (AreNarrow ex.now) }
     ensures served { ServesWhole (F.serves shelf.old) name.now 1073741824
         → IfErr result (λ fault. fault ≢ CheckFault.Unreadable) }
     ensures little { F.given shelf.new + pieces.offset ≤ F.given shelf.old + 1073741825 }
+    ensures near { IfOk result (IsReadNear (setting_subject (record {
+      exercise = ex.now;
+      sheet = sheet.now;
+    })) (F.files shelf.old) name.now (F.given shelf.old) (F.given shelf.new + pieces.offset)) }
     ensures files { F.files shelf.new ≡ F.files shelf.old }
     ensures faults { F.faults shelf.old ≤ F.faults shelf.new }
 {
@@ -168,6 +185,8 @@ fn judge_claims<F: Shelf, T: Tails + Drop>(
     ensures served { ServesWhole (F.serves shelf.old) name.now 1073741824
         → IfErr result (λ fault. fault ≢ CheckFault.Unreadable) }
     ensures little { F.given shelf.new + reader.offset ≤ F.given shelf.old + 1073741825 }
+    ensures near { IfOk result (ReadsNear (setting_subject checker.entry.asked) checker.entry.head
+        (F.files shelf.old) name.now (F.given shelf.old) (F.given shelf.new + reader.offset)) }
     ensures files { F.files shelf.new ≡ F.files shelf.old }
     ensures faults { F.faults shelf.old ≤ F.faults shelf.new }
 {

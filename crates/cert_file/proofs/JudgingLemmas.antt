@@ -5,12 +5,14 @@ use Rattle.std.proofs.lemmas.List.{flat_map_more, take-take}
 use Rattle.std.proofs.Math.Seq.{take-append_seam}
 use Rattle.std.specs.Io.{StartsWith}
 use Rattle.std.specs.List.{AllByRecursion, flat_map}
-use Rattle.cert_file.specs.Readings.{FaultAt, Files, Gives, IsAt, MayBe, Reading, judged_bytes, longest_certificate}
+use Rattle.cert_file.specs.Nearness.{EndsNear, IsReadFor, IsReadTo, IsReadToClaim, ReadsNear, line_end}
+use Rattle.cert_file.specs.Readings.{FaultAt, Files, Gives, IsAt, MayBe, Reading, judged_bytes, longest_certificate, longest_piece}
 use Rattle.cert_file.specs.declared.fault.ReadFault.{ReadFault}
 use Rattle.cert_file.specs.declared.verdict.Verdict.{Verdict}
 use Rattle.cert_file.specs.declared.verdict.Verdict.TheVariants as verdicts
 use Rattle.cert_file.proofs.LineLemmas.{begins_judged}
 use Rattle.cert_text.specs.declared.answers.CertFault.{CertFault}
+use Rattle.cert_text.specs.declared.answers.CertFault.TheVariants.{CertEnd, CertHead, CertWord, Memory}
 use Rattle.cert_text.specs.declared.answers.Refused.{Refused}
 use Rattle.cert_text.specs.declared.answers.Why.TheVariants.{Short}
 use Rattle.cert_text.specs.declared.claim.Claim.{Claim}
@@ -19,7 +21,7 @@ use Rattle.cert_tree.specs.Trees.{IsCertified, owed_by}
 use Rattle.fux_port.specs.Files.{MayHave}
 use Rattle.cert_file.specs.Checking.{Checking, IsFault, Refuses, Takes, TakesOf, opened_at}
 use Rattle.cert_file.specs.Judgments.{Finds, IsTaken, RefusesFor}
-use Rattle.cert_file.specs.Subjects.{IsOpened, Leaves, Subject}
+use Rattle.cert_file.specs.Subjects.{IsOpened, IsTextOf, Leaves, Subject}
 
 -- bytes that begin with more begin with its front
 pub begins_front : (bytes xs ys : List ℕ) → StartsWith bytes (xs ++ ys) → StartsWith bytes xs
@@ -59,6 +61,20 @@ module _ {H X : Type 0} (subject : Subject H X) (head : H) where
   leaves_none [] (claim ∷ claims) left = left
   leaves_none (p ∷ owed) (claim ∷ claims) left = (left.0, leaves_none (owed_by (subject.tree head) p claim ++ owed) claims left.1)
 
+  -- the text with one more claim
+  text_more : (claims : List Claim) (bytes : List ℕ) (claim : Claim) → IsTextOf subject head claims bytes → IsClaim claim
+      → IsTextOf subject head (claims ++ claim ∷ []) (bytes ++ claim_line claim)
+  text_more claims bytes claim text fits = record {
+    front = text.front;
+    heads = text.heads;
+    fits = all_more claims text.fits;
+    is = ap (λ xs. xs ++ claim_line claim) text.is ∙ flat_map_more claim_line text.front claims claim;
+  }
+    where
+      all_more : (claims : List Claim) → AllByRecursion IsClaim claims → AllByRecursion IsClaim (claims ++ claim ∷ [])
+      all_more [] all = (fits, tt)
+      all_more (other ∷ claims) all = (all.0, all_more claims all.1)
+
   pub taken_more : (count : ℕ) (p : X) (later : List X) (bytes : List ℕ) (claim : Claim)
       → IsTaken subject head count (p ∷ later) bytes → IsClaim claim → (subject.tree head).IsTrueOf p claim
       → IsTaken subject head (count + 1) (owed_by (subject.tree head) p claim ++ later) (bytes ++ claim_line claim)
@@ -66,19 +82,24 @@ module _ {H X : Type 0} (subject : Subject H X) (head : H) where
     sound = taken.sound;
     claims = taken.claims ++ claim ∷ [];
     counted = length-append taken.claims (claim ∷ []) ∙ ap (λ n. n + 1) taken.counted;
-    text = record {
-      front = taken.text.front;
-      heads = taken.text.heads;
-      fits = all_more taken.claims taken.text.fits;
-      is = ap (λ xs. xs ++ claim_line claim) taken.text.is
-          ∙ flat_map_more claim_line taken.text.front taken.claims claim;
-    };
+    text = text_more taken.claims bytes claim taken.text fits;
     left = leaves_more (subject.root ∷ []) taken.claims p later claim taken.left holds;
   }
-    where
-      all_more : (claims : List Claim) → AllByRecursion IsClaim claims → AllByRecursion IsClaim (claims ++ claim ∷ [])
-      all_more [] all = (fits, tt)
-      all_more (other ∷ claims) all = (all.0, all_more claims all.1)
+
+  -- a file that begins with the text of claims that were taken, and of one more, and of which no
+  -- more than a piece was read beyond that
+  pub read_to : (count : ℕ) (owed : List X) (front bytes : List ℕ) (claim : Claim) (read : ℕ)
+      → IsTaken subject head count owed front → IsClaim claim → StartsWith bytes (front ++ claim_line claim)
+      → read ≤ length (front ++ claim_line claim) + longest_piece
+      → IsReadToClaim subject head (count + 1) read bytes
+  read_to count owed front bytes claim read taken fits begins near = record {
+    front = front ++ claim_line claim;
+    claims = taken.claims ++ claim ∷ [];
+    counted = length-append taken.claims (claim ∷ []) ∙ ap (λ n. n + 1) taken.counted;
+    text = text_more taken.claims front claim taken.text fits;
+    begins = begins;
+    near = near;
+  }
 
   -- there are no more claims than bytes
   pub few : (count : ℕ) (owed : List X) (bytes : List ℕ) → IsTaken subject head count owed bytes
@@ -221,6 +242,74 @@ module _ {P H X : Type 0} (family : P → Subject H X) (files : Files) (name : L
                 untrue = it.0;
               };
         }
+
+    -- no more is read than a piece beyond the line of a claim that is refused
+    pub refused_near : (claim : Claim) (refused : Refused) (new : Checking P H X) (after : Reading) → IsClaim claim
+        → IsAt files name (on.now ++ claim_line claim) after → after.claims.begun ≡ []
+        → length after.ahead ≤ longest_piece → Refuses (family checker.asked) checker claim refused new
+        → MayBe files name (IsReadTo (family start.asked) start.head after.offset (verdicts.Claim refused))
+    refused_near claim refused new after fits at none short refuses = record {
+      bytes = at.begins.bytes;
+      had = at.begins.had;
+      such = by checker.owed (subst (λ (c : Checking P H X). IsFault (family c.asked) c c.owed claim refused) on.same refuses.0);
+    }
+      where
+        there : IsReadToClaim (family start.asked) start.head (checker.count + 1) after.offset at.begins.bytes
+        there = read_to (family start.asked) start.head checker.count checker.owed on.now at.begins.bytes claim after.offset
+            on.taken fits (begins_front at.begins.bytes (on.now ++ claim_line claim) _ at.begins.such)
+            (omega (arith, at.offset, short, ap length none))
+
+        by : (owed : List X)
+            → IsFault (family start.asked) (record start { owed = checker.owed; count = checker.count }) owed claim refused
+            → IsReadFor (family start.asked) start.head after.offset refused.number refused.why at.begins.bytes
+        by [] it = subst
+            (λ (r : Refused). IsReadFor (family start.asked) start.head after.offset r.number r.why at.begins.bytes)
+            (sym it) there
+        by (p ∷ later) it = subst
+            (λ (r : Refused). IsReadFor (family start.asked) start.head after.offset r.number r.why at.begins.bytes)
+            (sym it.1) there
+
+    -- nor beyond a line that is wrong; what ends too soon or too late is read to its end
+    pub fault_near : (fault : CertFault) (read : ℕ) → MayBe files name (FaultAt on.now fault)
+        → EndsNear files name (length on.now) read
+        → MayBe files name (IsReadTo (family start.asked) start.head read (verdicts.Text fault))
+    fault_near (CertWord at) read known near = record {
+      bytes = near.bytes;
+      had = near.had;
+      such = subst (λ n. read ≤ line_end n near.bytes + longest_piece) (sym known.such.0) near.such;
+    }
+    fault_near (CertEnd at) read known near = record { bytes = known.bytes; had = known.had; such = tt }
+    fault_near (CertHead at) read known near = record { bytes = known.bytes; had = known.had; such = tt }
+    fault_near Memory read known near = record { bytes = known.bytes; had = known.had; such = tt }
+
+    -- the same with what a shelf gave: where a line is wrong, nothing beyond what was read
+    pub wrong_near : (fault : CertFault) (before past read : ℕ) → MayBe files name (FaultAt on.now fault)
+        → EndsNear files name (length on.now) read → ((at : ℕ) → fault ≡ CertWord at → past ≤ before + read)
+        → past ≤ before + (read + 1)
+        → ReadsNear (family start.asked) start.head files name before past (verdicts.Text fault)
+    wrong_near (CertWord at) before past read known near word few =
+        record { read = read; few = word at refl; near = fault_near (CertWord at) read known near }
+    wrong_near (CertEnd at) before past read known near word few = record {
+      read = read + 1;
+      few = few;
+      near = record { bytes = known.bytes; had = known.had; such = tt };
+    }
+    wrong_near (CertHead at) before past read known near word few = absurd known.such
+    wrong_near Memory before past read known near word few = absurd known.such
+
+    -- the end of the file
+    pub end_near : (verdict : Verdict) (read : ℕ) → MayHave files name on.now
+        → (checker.owed ≡ [] → verdict ≡ verdicts.Accepted ((family checker.asked).accepted checker.head))
+        → (checker.owed ≢ [] → verdict ≡ verdicts.Claim (record { number = checker.count + 1; why = Short }))
+        → MayBe files name (IsReadTo (family start.asked) start.head read verdict)
+    end_near verdict read had accepted short = record { bytes = on.now; had = had; such = by checker.owed refl }
+      where
+        by : (owed : List X) → checker.owed ≡ owed → IsReadTo (family start.asked) start.head read verdict on.now
+        by [] are =
+            subst (λ (it : Verdict). IsReadTo (family start.asked) start.head read it on.now) (sym (accepted are)) tt
+        by (p ∷ later) are =
+            let some : checker.owed ≢ [] = λ none. cc in
+            subst (λ (it : Verdict). IsReadTo (family start.asked) start.head read it on.now) (sym (short some)) tt
 
     pub finds_fault : (fault : CertFault) → MayBe files name (FaultAt on.now fault)
         → Finds (family start.asked) start.head files name (verdicts.Text fault)

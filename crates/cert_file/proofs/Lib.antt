@@ -2,6 +2,7 @@ pub mod CheckingLemmas
 pub mod FileLemmas
 pub mod JudgingLemmas
 pub mod LineLemmas
+pub mod NearLemmas
 pub mod OneVerdict
 pub mod PieceLemmas
 pub mod StatedLemmas

@@ -1,6 +1,7 @@
 -- What a piece makes of the line behind a front: it is wrong (`wrong_line`), it isn't ended
 -- (`unended_line`), or the file is too long (`beyond_line`).
-use Rattle.std.proofs.Common.{◌≡◌, ℕ, ◌<◌, inl, inr, Bool, true, false, ◌==◌, ◌≤◌, List, [], ◌∷◌, ◌++◌, length, take, refl, sym, ap, subst, ◌∙◌, arith, append_assoc}
+use Rattle.std.proofs.Common.{◌≡◌, ℕ, ◌<◌, inl, inr, Bool, true, false, ◌==◌, ◌≤◌, List, [], ◌∷◌, ◌++◌, length, take, drop, refl, sym, ap, subst, ◌∙◌, arith, append_assoc, length-append}
+use Rattle.std.proofs.Math.Seq.{drop-append_seam}
 use Rattle.std.proofs.lemmas.List.{take-take}
 use Rattle.std.specs.Io.{StartsWith}
 use Rattle.std.specs.Prelude.{if◌then◌else◌}
@@ -8,7 +9,8 @@ use Rattle.cert_text.specs.declared.answers.CertFault.TheVariants.{CertWord, Cer
 use Rattle.cert_text.specs.Lines.{HasNoFeed, line_part}
 use Rattle.cert_text.specs.Potentials.{IsOwedLine}
 use Rattle.cert_text.proofs.PartLemmas.{begins_front, line_part-goes}
-use Rattle.cert_file.specs.Readings.{Begins, BeginsLine, FaultAtLine, Files, IsWanting, MayBe, Owed, AClaim, Stated, judged_bytes, longest_certificate}
+use Rattle.cert_file.specs.Nearness.{EndsNear}
+use Rattle.cert_file.specs.Readings.{Begins, BeginsLine, FaultAtLine, Files, IsWanting, MayBe, Owed, AClaim, Stated, judged_bytes, longest_certificate, longest_piece}
 use Rattle.fux_port.specs.Files.{MayHave}
 use Rattle.cert_file.proofs.FileLemmas.{behind}
 
@@ -47,6 +49,24 @@ begins_line (Stated is_potential) bytes more b = record {
   rest = more ++ b.rest;
   whole = subst (IsOwedLine is_potential) (append_assoc bytes more b.rest) b.whole;
 }
+
+-- a reader behind a front, of whose line these bytes were begun, has read no more than a piece
+-- beyond that line
+pub near_line : (files : Files) (name front begun ahead : List ℕ) (offset : ℕ) → HasNoFeed begun
+    → MayBe files name (Begins (front ++ (begun ++ ahead)))
+    → offset ≡ length front + (length begun + length ahead) → length ahead ≤ longest_piece
+    → EndsNear files name (length front) offset
+near_line files name front begun ahead offset unended known far short =
+    let rest = behind front (begun ++ ahead) known.bytes known.such in
+    let part : line_part (drop (length front) known.bytes) ≡ begun ++ line_part (ahead ++ rest.0) =
+    ap (λ xs. line_part (drop (length front) xs)) rest.1
+    ∙ ap line_part (drop-append_seam front ((begun ++ ahead) ++ rest.0) ∙ append_assoc begun ahead rest.0)
+    ∙ line_part-behind begun (ahead ++ rest.0) unended in
+    record {
+      bytes = known.bytes;
+      had = known.had;
+      such = omega (arith, far, short, ap length part, length-append begun (line_part (ahead ++ rest.0)));
+    }
 
 module _ (owed : Owed) (files : Files) (name front begun : List ℕ) (unended : HasNoFeed begun) where
   -- a line that was begun and goes on so begins none that is owed

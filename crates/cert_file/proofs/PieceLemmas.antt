@@ -15,10 +15,11 @@ use Rattle.cert_text.specs.declared.claims.Taken.{Taken}
 use Rattle.cert_text.specs.Lines.{BeginsClaim, HasNoFeed, IsClaim, claim_line, line_if, line_part}
 use Rattle.cert_text.specs.Reading as text
 use Rattle.cert_text.specs.Takes.{Refuses, Takes}
-use Rattle.cert_file.specs.Readings.{Begins, Continues, EndGives, FaultAt, Files, Gives, IsAt, IsPlaced, MayBe, AClaim, Piece, Reading, ReadsOn, TakesLine, longest_certificate}
+use Rattle.cert_file.specs.Readings.{Begins, Continues, EndGives, FaultAt, Files, Gives, IsAt, IsPlaced, MayBe, AClaim, Piece, Reading, ReadsOn, TakesLine, longest_certificate, longest_piece}
+use Rattle.cert_file.specs.Nearness.{StandsNear}
 use Rattle.cert_file.specs.declared.fault.ReadFault.{ReadFault}
 use Rattle.cert_file.specs.declared.fault.ReadFault.TheVariants.{Unreadable, Text}
-use Rattle.cert_file.proofs.LineLemmas.{beyond_line, unended_line, wrong_line}
+use Rattle.cert_file.proofs.LineLemmas.{beyond_line, near_line, unended_line, wrong_line}
 
 -- ---- lines of any kind
 
@@ -55,6 +56,12 @@ pub fault_given : (files : Files) (name front begun : List ℕ) (rose later : Ty
     → Gives files name rose front after (Err fault)
 fault_given files name front begun rose later now after Unreadable so read = so read
 fault_given files name front begun rose later now after (Text fault) so read = read
+
+-- a reader has read no more than a piece beyond the line behind its front
+pub stands_near : (before : Reading) (offset : ℕ) → length before.ahead ≤ longest_piece → offset ≡ before.offset
+    → StandsNear before offset
+stands_near before offset short same = λ files name front at.
+    near_line files name front before.claims.begun before.ahead offset at.unended at.begins (same ∙ at.offset) short
 
 -- no bytes begin a claim's line
 pub nothing_begins : BeginsClaim []
@@ -120,7 +127,7 @@ module _ (files : Files) (name front : List ℕ) (before : Reading) (at : IsAt f
             let ended = subst (λ c. IfSome c (λ claim. IsClaim claim × (new.begun ≡ []))) some takes.ended in
             let line = subst BeginsClaim (sym ended.1) nothing_begins in
             let unended = subst HasNoFeed (sym ended.1) tt in
-            (ended.0, subst (λ c. IsAt files name (front ++ line_if c) seen) some (taken_at line unended))
+            (ended.0, subst (λ c. IsAt files name (front ++ line_if c) seen) some (taken_at line unended), ended.1)
 
   -- a line is refused
   pub line_refused : (fault : CertFault) (new : text.Reading) (after : Reading)

@@ -13,12 +13,19 @@ use Rattle.cert_text.specs.Lines.{HasNoFeed, line_part}
 use Rattle.cert_text.specs.PotentialReading.{PotentialReading, owes_potential, potential_line_start}
 use Rattle.cert_text.specs.PotentialTakes.{LineEnds, RefusesPotential, TakesPotential}
 use Rattle.cert_text.specs.Potentials.{BeginsOwed, last_line, potential_line}
-use Rattle.cert_file.specs.Readings.{Begins, Continues, FaultAtLine, Files, IsPlaced, MayBe, Piece, Stated, longest_certificate}
+use Rattle.cert_file.specs.Nearness.{StandsNearStated}
+use Rattle.cert_file.specs.Readings.{Begins, Continues, FaultAtLine, Files, IsPlaced, MayBe, Piece, Stated, longest_certificate, longest_piece}
 use Rattle.cert_file.specs.StatedReadings.{GivesStated, HasGiven, IsAtStated, ReadsStated, StatedReading, TakesLines, TakesStated, owed_line}
 use Rattle.cert_file.specs.declared.fault.ReadFault.{ReadFault}
 use Rattle.cert_file.specs.declared.fault.ReadFault.TheVariants.{Unreadable, Text}
-use Rattle.cert_file.proofs.LineLemmas.{beyond_line, unended_line, wrong_line}
+use Rattle.cert_file.proofs.LineLemmas.{beyond_line, near_line, unended_line, wrong_line}
 use Rattle.cert_file.proofs.PieceLemmas.{none_left, sizes, split}
+
+-- a reader has read no more than a piece beyond the line behind its front
+pub stands_near_stated : (before : StatedReading) (offset : ℕ) → length before.ahead ≤ longest_piece
+    → offset ≡ before.offset → StandsNearStated before offset
+stands_near_stated before offset short same = λ files name front at.
+    near_line files name front before.entries.begun before.ahead offset at.unended at.begins (same ∙ at.offset) short
 
 -- no bytes begin any line that is owed
 pub nothing_begins_owed : (is_potential : Bool) → BeginsOwed is_potential []

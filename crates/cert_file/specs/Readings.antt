@@ -49,6 +49,7 @@ pub record IsPiece (piece : List ℕ) (from to offset : ℕ) : Type 0 where
 pub record IsReading (piece : Piece) (claims : text.Reading) : Type 0 where
   pub limit : piece.offset ≤ 1073741824
   pub taken : claims.used + length piece.ahead ≤ piece.offset
+  pub short : length piece.ahead ≤ longest_piece
 
 -- the files that a shelf tells, if it does
 abbrev pub Files : Type 0
@@ -180,7 +181,8 @@ ContinuesNext files name rose before after result =
 -- what a reader behind a front gives next: the claim whose line stands there, the end, or what is
 -- wrong
 abbrev pub Gives : Files → List ℕ → Type 0 → List ℕ → Reading → Result (Option Claim) ReadFault → Type 0
-Gives files name rose front after (Ok (Some claim)) = IsClaim claim × IsAt files name (front ++ claim_line claim) after
+Gives files name rose front after (Ok (Some claim)) =
+    IsClaim claim × IsAt files name (front ++ claim_line claim) after × (after.claims.begun ≡ [])
 Gives files name rose front after (Ok None) = MayHave files name front
 Gives files name rose front after (Err Unreadable) = rose
 Gives files name rose front after (Err (Text fault)) = MayBe files name (FaultAt front fault)
@@ -192,7 +194,8 @@ GivesNext files name rose before after result =
 
 -- what a reader gives of the piece alone
 abbrev pub TakesLine : Files → List ℕ → List ℕ → Reading → Result (Option Claim) CertFault → Type 0
-TakesLine files name front after (Ok (Some claim)) = IsClaim claim × IsAt files name (front ++ claim_line claim) after
+TakesLine files name front after (Ok (Some claim)) =
+    IsClaim claim × IsAt files name (front ++ claim_line claim) after × (after.claims.begun ≡ [])
 TakesLine files name front after (Ok None) = IsAt files name front after × (after.ahead ≡ [])
 TakesLine files name front after (Err fault) = MayBe files name (FaultAt front fault)
 

@@ -10,7 +10,7 @@ use Rattle.cert_text.specs.PotentialReading.{PotentialReading, owes_potential}
 use Rattle.cert_text.specs.Potentials.{BeginsOwed, IsPotential, last_line, potential_line}
 use Rattle.cert_file.specs.declared.fault.ReadFault.{ReadFault}
 use Rattle.cert_file.specs.declared.fault.ReadFault.TheVariants.{Unreadable, Text}
-use Rattle.cert_file.specs.Readings.{Begins, FaultAtLine, Files, MayBe, Owed, Piece, Stated}
+use Rattle.cert_file.specs.Readings.{Begins, FaultAtLine, Files, MayBe, Owed, Piece, Stated, longest_piece}
 
 -- what contracts see of a reader: its potentials, the bytes that were read and not used, and how
 -- many were read
@@ -31,6 +31,7 @@ stated_from next count ahead offset = record {
 pub record IsStatedReading (piece : Piece) (entries : PotentialReading) : Type 0 where
   pub limit : piece.offset ≤ 1073741824
   pub taken : entries.used + length piece.ahead ≤ piece.offset
+  pub short : length piece.ahead ≤ longest_piece
 
 -- a reader stands behind the front of a file: behind it are the bytes of a line that was begun, and
 -- those that were read and not used

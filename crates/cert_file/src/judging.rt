@@ -5,6 +5,7 @@ ghost use Rattle.cert_text.specs.declared.answers.Why.TheVariants as whys;
 ghost use Rattle.cert_file.specs.declared.verdict.Verdict.TheVariants as verdicts;
 ghost use Rattle.cert_file.specs.Checking.{opened_at};
 ghost use Rattle.cert_file.specs.Judgments.{Finds, Shows};
+ghost use Rattle.cert_file.specs.Nearness.{ReadsNear};
 ghost use Rattle.cert_file.specs.Subjects.{IsOpened};
 ghost use Rattle.fux_port.specs.Counts.{Rose};
 ghost use Rattle.fux_port.specs.Promises.{ServesWhole};
@@ -34,8 +35,11 @@ pub fn judge<F: Shelf, C: Checks + Drop>(
     ensures cause { OnErr result (Rose (F.faults shelf.old) (F.faults shelf.new)) }
     ensures served { ServesWhole (F.serves shelf.old) name.now 1073741824 → IsOk result }
 
-    // It ends within what a certificate may have, also where the file has no end.
+    // It ends within what a certificate may have, also where the file has no end; and where a claim
+    // is refused or a line is wrong, no more than a piece is read beyond that line.
     ensures little { F.given shelf.new + reader.old.offset ≤ F.given shelf.old + 1073741825 }
+    ensures near { IfOk result (ReadsNear (C.subject (C.seen checker).asked) (C.seen checker).head
+        (F.files shelf.old) name.now (F.given shelf.old) (F.given shelf.new + reader.old.offset)) }
     ensures files { F.files shelf.new ≡ F.files shelf.old }
     ensures faults { F.faults shelf.old ≤ F.faults shelf.new }
 {

@@ -1,6 +1,6 @@
 //! A file that is read in pieces.
 
-ghost use Rattle.std.specs.Prelude.{◌≡◌, ◌≢◌, ◌+◌, ◌-◌, ◌<◌, ◌≤◌, true, Ok, drop, length, take, IfErr, OnOk};
+ghost use Rattle.std.specs.Prelude.{◌≡◌, ◌≢◌, ℕ, ◌+◌, ◌-◌, ◌<◌, ◌≤◌, true, Ok, drop, length, take, IfErr, OnErr, OnOk};
 ghost use Rattle.fux_port.specs.Counts.{Rose};
 ghost use Rattle.fux_port.specs.Promises.{Keeps, ServesWhole};
 ghost use Rattle.cert_file.specs.Readings.{ContinuesNext, longest_piece};
@@ -73,6 +73,7 @@ impl Pieces {
     pub fn next(&self) -> u64
         ensures place { result ≡ self.now.offset - length self.now.ahead }
         ensures read { length self.now.ahead ≤ self.now.offset }
+        ensures short { length self.now.ahead ≤ longest_piece }
         ensures limit { self.now.offset ≤ 1073741824 }
     {
         self.offset - (self.to - self.from) as u64
@@ -92,6 +93,12 @@ impl Pieces {
             (Rose (F.faults shelf.old) (F.faults shelf.new)) self.old self.new result }
         ensures grows { result ≡ Ok true → self.old.offset < self.new.offset }
         ensures limit { self.new.offset ≤ 1073741824 }
+        ensures short { length self.new.ahead ≤ longest_piece }
+
+        // Where it fails, no line is wrong, and no more was read.
+        ensures fault { IfErr result (λ fault. (at : ℕ)
+            → fault ≢ ReadFault.Text (CertFault.CertWord at)) }
+        ensures stays { OnErr result (self.new.offset ≡ self.old.offset) }
         ensures fits { length self.new.ahead + self.old.offset ≤ self.new.offset
             + length self.old.ahead }
         ensures served { ServesWhole (F.serves shelf.old) name.now 1073741824

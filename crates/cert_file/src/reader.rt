@@ -1,8 +1,9 @@
 //! Claims from a certificate's file.
 
-ghost use Rattle.std.specs.Prelude.{◌≡◌, ◌≢◌, ℕ, ◌+◌, ◌-◌, ◌<◌, ◌≤◌, true, List, Ok, drop, length, take, IfErr, OnOk};
+ghost use Rattle.std.specs.Prelude.{◌≡◌, ◌≢◌, ℕ, ◌+◌, ◌-◌, ◌<◌, ◌≤◌, true, List, Err, Ok, drop, length, take, IfErr, OnErr, OnOk};
 ghost use Rattle.fux_port.specs.Counts.{Rose};
 ghost use Rattle.fux_port.specs.Promises.{Keeps, ServesWhole};
+ghost use Rattle.cert_file.specs.Nearness.{StandsNear};
 ghost use Rattle.cert_file.specs.Readings.{Files, GivesEnd, GivesNext, IsAt, ReadsNext, TakesLine, longest_piece, reading_from};
 
 use crate::fault::ReadFault;
@@ -57,6 +58,12 @@ impl Reader {
         ensures limit { self.old.offset ≤ 1073741824 }
         ensures limit_after { self.new.offset ≤ 1073741824 }
 
+        // No more is read than a piece beyond the line that is read, or that is wrong.
+        ensures short { length self.new.ahead ≤ longest_piece }
+        ensures near { OnErr result (StandsNear self.old self.new.offset) }
+        ensures told_word { (at : ℕ) → result ≡ Err (ReadFault.Text (CertFault.CertWord at))
+            → F.given shelf.new + self.old.offset ≤ F.given shelf.old + self.new.offset }
+
         // No shelf is blamed that promises each read up to there.
         ensures served { ServesWhole (F.serves shelf.old) name.now 1073741824
             → IfErr result (λ fault. fault ≢ ReadFault.Unreadable) }
@@ -88,6 +95,8 @@ impl Reader {
         ensures takes { (files : Files) (name front : List ℕ) → IsAt files name front self.old
             → TakesLine files name front self.new result }
         ensures offset { self.new.offset ≡ self.old.offset }
+        ensures short { length self.new.ahead ≤ longest_piece }
+        ensures near { StandsNear self.old self.new.offset }
         ensures limit { self.old.offset ≤ 1073741824 }
     {
         match self.claims.take(self.pieces.ahead()) {
@@ -103,6 +112,7 @@ impl Reader {
     fn end(&self) -> Result<Option<Claim>, ReadFault>
         ensures gives { GivesEnd self.now result }
         ensures read { IfErr result (λ fault. fault ≢ ReadFault.Unreadable) }
+        ensures near { StandsNear self.now self.now.offset }
     {
         match self.claims.end() {
             Ok(()) => Ok(None),
@@ -116,6 +126,10 @@ impl Reader {
             (Rose (F.faults shelf.old) (F.faults shelf.new)) self.old self.new result }
         ensures grows { result ≡ Ok true → self.old.offset < self.new.offset }
         ensures limit { self.new.offset ≤ 1073741824 }
+        ensures short { length self.new.ahead ≤ longest_piece }
+        ensures fault { IfErr result (λ fault. (at : ℕ)
+            → fault ≢ ReadFault.Text (CertFault.CertWord at)) }
+        ensures near { OnErr result (StandsNear self.old self.new.offset) }
         ensures served { ServesWhole (F.serves shelf.old) name.now 1073741824
             → IfErr result (λ fault. fault ≢ ReadFault.Unreadable) }
         ensures serving { Keeps (F.serves shelf.old) (F.serves shelf.new) }

@@ -1,9 +1,10 @@
 //! What a certificate of the second form states, from its file.
 
-ghost use Rattle.std.specs.Prelude.{◌≡◌, ◌≢◌, ℕ, ◌+◌, ◌-◌, ◌<◌, ◌^◌, ◌≤◌, true, false, List, Ok, length, IfErr, IfOk, IfSome, OnOk};
+ghost use Rattle.std.specs.Prelude.{◌≡◌, ◌≢◌, ℕ, ◌+◌, ◌-◌, ◌<◌, ◌^◌, ◌≤◌, true, false, List, Err, Ok, length, IfErr, IfOk, IfSome, OnErr, OnOk};
 ghost use Rattle.fux_port.specs.Counts.{Rose};
 ghost use Rattle.fux_port.specs.Promises.{Keeps, ServesWhole};
-ghost use Rattle.cert_file.specs.Readings.{Files, reading_from};
+ghost use Rattle.cert_file.specs.Nearness.{StandsNearStated};
+ghost use Rattle.cert_file.specs.Readings.{Files, longest_piece, reading_from};
 ghost use Rattle.cert_file.specs.StatedReadings.{EndsStated, GivesNextStated, IsAtStated, ReadsNextStated, TakesStated, stated_from};
 
 use crate::fault::ReadFault;
@@ -56,6 +57,13 @@ impl StatedReader {
         // The rest is as `next` of `Reader` has it.
         ensures limit { self.old.offset ≤ 1073741824 }
         ensures limit_after { self.new.offset ≤ 1073741824 }
+
+        // No more is read than a piece beyond the line that is read, or that is wrong.
+        ensures short { length self.new.ahead ≤ longest_piece }
+        ensures near { OnErr result (StandsNearStated self.old self.new.offset) }
+        ensures told_word { (at : ℕ) → result ≡ Err (ReadFault.Text (CertFault.CertWord at))
+            → F.given shelf.new + self.old.offset ≤ F.given shelf.old + self.new.offset }
+
         ensures served { ServesWhole (F.serves shelf.old) name.now 1073741824
             → IfErr result (λ fault. fault ≢ ReadFault.Unreadable) }
         ensures serving { Keeps (F.serves shelf.old) (F.serves shelf.new) }
@@ -93,6 +101,8 @@ impl StatedReader {
         ensures more { IfOk result (λ taken. IfSome taken.potential (λ _. self.new.entries.done
             ≡ false)) }
         ensures offset { self.new.offset ≡ self.old.offset }
+        ensures short { length self.new.ahead ≤ longest_piece }
+        ensures near { StandsNearStated self.old self.new.offset }
         ensures limit { self.old.offset ≤ 1073741824 }
     {
         match self.entries.take(self.pieces.ahead()) {
@@ -107,7 +117,8 @@ impl StatedReader {
     /// What the end of the file is: a line is wanting, or not ended.
     fn end(&self) -> CertFault
         requires { self.now.entries.done ≡ false }
-        ensures { EndsStated self.now result }
+        ensures ends { EndsStated self.now result }
+        ensures near { StandsNearStated self.now self.now.offset }
     {
         self.entries.end()
     }
@@ -119,6 +130,10 @@ impl StatedReader {
         ensures more { self.new.entries.done ≡ self.old.entries.done }
         ensures grows { result ≡ Ok true → self.old.offset < self.new.offset }
         ensures limit { self.new.offset ≤ 1073741824 }
+        ensures short { length self.new.ahead ≤ longest_piece }
+        ensures fault { IfErr result (λ fault. (at : ℕ)
+            → fault ≢ ReadFault.Text (CertFault.CertWord at)) }
+        ensures near { OnErr result (StandsNearStated self.old self.new.offset) }
         ensures served { ServesWhole (F.serves shelf.old) name.now 1073741824
             → IfErr result (λ fault. fault ≢ ReadFault.Unreadable) }
         ensures serving { Keeps (F.serves shelf.old) (F.serves shelf.new) }

@@ -1,4 +1,4 @@
-use Rattle.std.proofs.Common.{◌≡◌, List, [], Result, Ok, Err, refl, sym, subst}
+use Rattle.std.proofs.Common.{◌≡◌, ◌+◌, inl, List, [], Result, Ok, Err, refl, sym, subst, arith}
 use Rattle.std.specs.Prelude.{⊤}
 use Rattle.cert_file.specs.declared.verdict.Verdict.{Verdict}
 use Rattle.fux_port.specs.Counts.{Rose}
@@ -9,7 +9,9 @@ use Rattle.cantus_space.specs.declared.plan.CantusPlan.{CantusPlan}
 use Rattle.cantus_text.specs.Heads.{IsHeadText}
 use Rattle.cert_file.specs.Checking.{Checking, opened_at}
 use Rattle.cert_file.specs.Judgments.{Finds, Shows}
+use Rattle.cert_file.specs.Nearness.{ReadsNear}
 use Rattle.cert_file.specs.Readings.{Files}
+use Rattle.cert_file.proofs.NearLemmas.{each_verdict, near_moved}
 use Rattle.cert_file.specs.Subjects.{IsOpened}
 use Rattle.fux_pitch.specs.declared.pitch.Pitch.{Pitch}
 use Rattle.cantus_check.specs.declared.checking.CantusFault.{CantusFault}
@@ -87,3 +89,26 @@ pub returns-in-Ok-judge-clause-accepts : goal.returns-in-Ok-judge-clause-accepts
 returns-in-Ok-judge-clause-accepts g c =
     accepts_valid c.args.space.now (g.F.Shelf.files c.args.shelf.now) c.args.name.now ⊤ (Ok c.in-Ok-judge.verdict)
     (returns-in-Ok-judge-clause-answers g c)
+
+-- ---- how much is read
+
+pub returns-in-Err-clause-near : goal.returns-in-Err-clause-near
+returns-in-Err-clause-near g c = each_verdict _ c.not_started.result (λ it. inl c.start.ensures.little)
+
+pub returns-in-Err-open-clause-near : goal.returns-in-Err-open-clause-near
+returns-in-Err-open-clause-near g c = each_verdict _ c.not_opened.result (λ it. inl c.start.ensures.little)
+
+pub returns-in-Ok-judge-clause-near : goal.returns-in-Ok-judge-clause-near
+returns-in-Ok-judge-clause-near g c =
+    let name = c.args.name.now in
+    let files = g.F.Shelf.files c.start.new.shelf in
+    let mid = g.F.Shelf.given c.start.new.shelf in
+    let past = g.F.Shelf.given c.judge.new.shelf in
+    let reader = c.in-Ok.started.1 in
+    let it = c.in-Ok-judge.verdict in
+    near_moved (cantus_subject c.args.space.now) c.in-Ok.started.0.best files name (g.F.Shelf.files c.args.shelf.now)
+    (g.F.Shelf.given c.args.shelf.now) mid (past + reader.offset) past it c.start.ensures.files
+    (λ read few. omega (arith, few, c.in-Ok.ensures.told))
+    (subst
+    (λ (k : Checking CantusPlan Said (List Pitch)). ReadsNear (cantus_subject k.asked) k.head files name mid (past + reader.offset) it)
+    c.in-Ok-open.ensures.opened c.in-Ok-judge.ensures.near)

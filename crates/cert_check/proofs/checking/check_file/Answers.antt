@@ -1,9 +1,11 @@
-use Rattle.std.proofs.Common.{Result, Err, refl, sym, subst}
+use Rattle.std.proofs.Common.{◌+◌, inl, Result, Err, refl, sym, subst, arith}
 use Rattle.cert_check.specs.Answers.{Answers}
 use Rattle.cert_check.specs.declared.checking.CheckFault.{CheckFault}
 use Rattle.cert_check.proofs.AnswerLemmas.{answers_moved, starts_answer, unstarted_missing}
 use Rattle.cert_check.proofs.RefusedLemmas.{accepted_answer}
 use Rattle.cert_file.specs.declared.verdict.Verdict.{Verdict}
+use Rattle.cert_file.proofs.NearLemmas.{each_verdict, read_moved, then_verdict}
+use Rattle.cert_check.specs.Settings.{Asked, setting_subject}
 use Rattle.fux_port.specs.Counts.{Rose}
 use Rattle.fux_port.proofs.Rises.{rose_later}
 use Rattle.cert_check.proofs.checking.check_file.Goals as goal
@@ -49,3 +51,28 @@ returns-in-Second-clause-accepts g c =
     accepted_answer c.args.ex.now c.args.sheet.now (g.F.Shelf.files c.args.shelf.now) c.args.name.now
     (Rose (g.F.Shelf.faults c.args.shelf.now) (g.F.Shelf.faults c.check_second.new.shelf)) c.requires.valid
     c.check_second.result (returns-in-Second-clause-answers g c)
+
+-- ---- how much is read
+
+pub returns-in-Err-clause-near : goal.returns-in-Err-clause-near
+returns-in-Err-clause-near g c = each_verdict _ c.not_started.result (λ it. inl c.start.ensures.little)
+
+pub returns-in-First-clause-near : goal.returns-in-First-clause-near
+returns-in-First-clause-near g c =
+    let asked : Asked = record { exercise = c.args.ex.now; sheet = c.args.sheet.now } in
+    then_verdict _ _ c.check_first.result
+    (λ it near. read_moved (setting_subject asked) (g.F.Shelf.files c.start.new.shelf) c.args.name.now
+    (g.F.Shelf.files c.args.shelf.now) (g.F.Shelf.given c.args.shelf.now) (g.F.Shelf.given c.start.new.shelf)
+    (g.F.Shelf.given c.check_first.new.shelf + c.in-Ok.started.2.offset) (g.F.Shelf.given c.check_first.new.shelf) it
+    c.start.ensures.files (λ read few. omega (arith, few, c.in-Ok.ensures.told)) near)
+    c.check_first.ensures.near
+
+pub returns-in-Second-clause-near : goal.returns-in-Second-clause-near
+returns-in-Second-clause-near g c =
+    let asked : Asked = record { exercise = c.args.ex.now; sheet = c.args.sheet.now } in
+    then_verdict _ _ c.check_second.result
+    (λ it near. read_moved (setting_subject asked) (g.F.Shelf.files c.start.new.shelf) c.args.name.now
+    (g.F.Shelf.files c.args.shelf.now) (g.F.Shelf.given c.args.shelf.now) (g.F.Shelf.given c.start.new.shelf)
+    (g.F.Shelf.given c.check_second.new.shelf + c.in-Ok.started.2.offset) (g.F.Shelf.given c.check_second.new.shelf) it
+    c.start.ensures.files (λ read few. omega (arith, few, c.in-Ok.ensures.told)) near)
+    c.check_second.ensures.near

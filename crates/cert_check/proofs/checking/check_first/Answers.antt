@@ -1,8 +1,11 @@
-use Rattle.std.proofs.Common.{◌≡◌, List, [], None, Result, refl, sym, subst}
+use Rattle.std.proofs.Common.{◌≡◌, ◌+◌, inl, List, [], None, Result, refl, sym, ap, subst, arith}
+use Rattle.std.specs.Prelude.{IfOk}
 use Rattle.cert_check.specs.Answers.{Answers}
 use Rattle.cert_file.specs.Checking.{Checking, opened_at}
 use Rattle.cert_file.specs.Subjects.{IsOpened}
-use Rattle.cert_check.specs.Settings.{Asked, IsOpeningText, Opening}
+use Rattle.cert_check.specs.Settings.{Asked, IsOpeningText, Opening, setting_subject}
+use Rattle.cert_file.specs.Nearness.{ReadsNear}
+use Rattle.cert_file.proofs.NearLemmas.{each_verdict, near_moved, then_verdict}
 use Rattle.fux_grid.specs.declared.cell.Cell.{Cell}
 use Rattle.cert_check.specs.declared.checking.CheckFault.{CheckFault}
 use Rattle.cert_check.proofs.AnswerLemmas.{first_opened, opening_answer, unopened_narrow}
@@ -38,3 +41,26 @@ judge_claims-requires-clause-opened g c =
 pub judge_claims-requires-clause-fresh : goal.judge_claims-requires-clause-fresh
 judge_claims-requires-clause-fresh g c =
     subst (λ (k : Checking Asked Opening (List (List Cell))). k ≡ opened_at k.asked k.head []) (sym c.in-Ok.ensures.opened) refl
+
+-- ---- how much is read
+
+pub returns-in-Err-clause-near : goal.returns-in-Err-clause-near
+returns-in-Err-clause-near g c = each_verdict _ c.not_opened.result (λ it. inl (omega (arith, c.requires.limit)))
+
+pub returns-in-Ok-clause-near : goal.returns-in-Ok-clause-near
+returns-in-Ok-clause-near g c =
+    let asked : Asked = record { exercise = c.args.ex.now; sheet = c.args.sheet.now } in
+    let opening : Opening = record { head = c.args.head; stated = None } in
+    let files = g.F.Shelf.files c.args.shelf.now in
+    let name = c.args.name.now in
+    let before = g.F.Shelf.given c.args.shelf.now in
+    let past = g.F.Shelf.given c.judge_claims.new.shelf in
+    let offset = c.behind.result.offset in
+    then_verdict _ _ c.judge_claims.result
+    (λ it near. near_moved (setting_subject asked) opening files name files before before (past + offset)
+    (past + c.args.pieces.offset) it refl
+    (λ read few. omega (arith, few, ap (λ (r : Reading). r.offset) c.behind.ensures)) near)
+    (subst
+    (λ (k : Checking Asked Opening (List (List Cell))). IfOk c.judge_claims.result
+    (ReadsNear (setting_subject k.asked) k.head files name before (past + offset)))
+    c.in-Ok.ensures.opened c.judge_claims.ensures.near)

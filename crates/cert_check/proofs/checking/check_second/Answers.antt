@@ -1,8 +1,12 @@
-use Rattle.std.proofs.Common.{◌≡◌, List, [], Some, Result, length, refl, sym, ap, subst, ◌∙◌, arith}
+use Rattle.std.proofs.Common.{◌≡◌, ◌+◌, inl, List, [], None, Some, Result, Err, length, refl, sym, ap, subst, ◌∙◌, arith}
+use Rattle.std.specs.Prelude.{IfOk}
 use Rattle.cert_check.specs.Answers.{Answers, unstarted}
 use Rattle.cert_file.specs.Checking.{Checking, opened_at}
 use Rattle.cert_file.specs.Subjects.{IsOpened}
-use Rattle.cert_check.specs.Settings.{Asked, IsOpeningText, Opening}
+use Rattle.cert_check.specs.Settings.{Asked, IsOpeningText, Opening, setting_subject}
+use Rattle.cert_file.specs.Nearness.{IsReadNear, ReadsNear}
+use Rattle.cert_file.proofs.NearLemmas.{each_verdict, near_moved, then_verdict}
+use Rattle.cert_check.proofs.NearLemmas.{closed_near, entered_near}
 use Rattle.cert_check.specs.Starts.{IsEntered, IsStatedWhole}
 use Rattle.fux_grid.specs.declared.cell.Cell.{Cell}
 use Rattle.cert_check.specs.Stating.{Stating, TellsFalse, stating_for}
@@ -112,3 +116,79 @@ returns-in-Err-close-clause-answers g c =
 pub judge_claims-requires-clause-fresh : goal.judge_claims-requires-clause-fresh
 judge_claims-requires-clause-fresh g c =
     subst (λ (k : Checking Asked Opening (List (List Cell))). k ≡ opened_at k.asked k.head []) (sym c.in-Ok-close.ensures.opened) refl
+
+-- ---- how much is read
+
+pub returns-in-Err-clause-near : goal.returns-in-Err-clause-near
+returns-in-Err-clause-near g c = each_verdict _ c.not_opened.result (λ it. inl (omega (arith, c.requires.limit)))
+
+pub returns-in-Err-enter-clause-near : goal.returns-in-Err-enter-clause-near
+returns-in-Err-enter-clause-near g c =
+    let asked : Asked = record { exercise = c.args.ex.now; sheet = c.args.sheet.now } in
+    let files = g.F.Shelf.files c.args.shelf.now in
+    let before = g.F.Shelf.given c.args.shelf.now in
+    let past = g.F.Shelf.given c.enter.new.shelf + c.args.pieces.offset in
+    let from = ap (λ (r : StatedReading). r.offset) c.behind-reader.ensures in
+    subst
+    (λ (r : Result Verdict CheckFault). IfOk r (IsReadNear (setting_subject asked) files c.args.name.now before past))
+    (sym c.not_started.ensures)
+    (entered_near asked files c.args.name.now before past (record { head = c.args.head; stated = None }) _ c.in-Ok.stated
+    c.enter.new.stated c.enter.new.reader c.in-Err-enter.fault c.enter.new.reader.offset
+    (omega (arith, c.enter.ensures.little, from)) c.in-Err-enter.ensures.enters
+    (λ place is.
+    let word = c.enter.ensures.word place (c.in-Err-enter.is ∙ ap Err is) in
+    (omega (arith, word.0, from), word.1)))
+
+pub returns-in-Err-close-clause-near : goal.returns-in-Err-close-clause-near
+returns-in-Err-close-clause-near g c =
+    let ex = c.args.ex.now in
+    let sheet = c.args.sheet.now in
+    let asked : Asked = record { exercise = ex; sheet = sheet } in
+    let files = g.F.Shelf.files c.args.shelf.now in
+    let name = c.args.name.now in
+    let before = g.F.Shelf.given c.args.shelf.now in
+    let past = g.F.Shelf.given c.enter.new.shelf + c.args.pieces.offset in
+    let enters = c.in_default.ensures.enters in
+    let t = c.enter.new.stated in
+    let whole = subst (λ (s : Stating). IsStatedWhole s.exercise files name s.head t.entries c.enter.new.reader)
+    c.in-Ok.ensures.opened enters.1 in
+    let same : t ≡ stating_for ex sheet c.args.head t.entries = enters.0
+    ∙ ap (λ (s : Stating). record s { entries = t.entries }) c.in-Ok.ensures.opened in
+    subst (λ (r : Result Verdict CheckFault). IfOk r (IsReadNear (setting_subject asked) files name before past))
+    (sym c.not_closed.ensures)
+    (closed_near asked files name before past c.args.head t.entries c.enter.new.reader c.in-Err-close.fault whole
+    c.enter.ensures.short
+    (omega (arith, c.in_default.ensures.told, ap (λ (r : StatedReading). r.offset) c.behind-reader.ensures))
+    (subst (λ (s : Stating). TellsFalse s c.in-Err-close.fault) same c.in-Err-close.ensures.refused))
+
+pub returns-in-Ok-close-clause-near : goal.returns-in-Ok-close-clause-near
+returns-in-Ok-close-clause-near g c =
+    let asked : Asked = record { exercise = c.args.ex.now; sheet = c.args.sheet.now } in
+    let name = c.args.name.now in
+    let then = g.F.Shelf.files c.enter.new.shelf in
+    let before = g.F.Shelf.given c.args.shelf.now in
+    let mid = g.F.Shelf.given c.enter.new.shelf in
+    let past = g.F.Shelf.given c.judge_claims.new.shelf in
+    let entries = c.enter.new.stated.entries in
+    let far = c.claims.result.offset in
+    let result = c.judge_claims.result in
+    then_verdict _ _ result
+    (λ it near. near_moved (setting_subject asked) (record { head = c.args.head; stated = Some entries }) then name
+    (g.F.Shelf.files c.args.shelf.now) before mid (past + far) (past + c.args.pieces.offset) it c.enter.ensures.files
+    (λ read few. omega (
+      arith,
+      few,
+      c.in_default.ensures.told,
+      ap (λ (r : StatedReading). r.offset) c.behind-reader.ensures,
+      ap (λ (r : Reading). r.offset) c.claims.ensures,
+    )) near)
+    (subst
+    (λ (s : Stating). IfOk result (ReadsNear (setting_subject record { exercise = s.exercise; sheet = s.sheet })
+    (record { head = s.head; stated = Some entries }) then name mid (past + far)))
+    c.in-Ok.ensures.opened
+    (subst
+    (λ (t : Stating). IfOk result (ReadsNear (setting_subject record { exercise = t.exercise; sheet = t.sheet })
+    (record { head = t.head; stated = Some entries }) then name mid (past + far)))
+    c.in_default.ensures.enters.0
+    (subst (λ (k : Checking Asked Opening (List (List Cell))). IfOk result (ReadsNear (setting_subject k.asked) k.head then name mid (past + far)))
+    c.in-Ok-close.ensures.opened c.judge_claims.ensures.near)))

@@ -4,7 +4,11 @@ use Rattle.fux_port.proofs.Rises.{rose_later}
 use Rattle.std.specs.List.{flat_map}
 use Rattle.cert_text.specs.declared.potential.Potential.{Potential}
 use Rattle.cert_text.specs.Potentials.{potential_line}
+use Rattle.cert_text.specs.declared.answers.CertFault.TheVariants.{CertWord}
+use Rattle.cert_file.specs.Nearness.{EndsNear}
 use Rattle.cert_file.specs.StatedReadings.{GivesStated}
+use Rattle.cert_file.specs.declared.fault.ReadFault.{ReadFault}
+use Rattle.cert_file.specs.declared.fault.ReadFault.TheVariants.{Text}
 use Rattle.cert_check.specs.Entering.{IsEnteredInto}
 use Rattle.cert_check.specs.Starts.{IsStatedWhole}
 use Rattle.cert_check.specs.Stating.{Stating}
@@ -71,3 +75,21 @@ returns-in-Err-clause-enters g c =
     c.loop-potential.invariant.1 c.requires.sound (rose_later _ _ _ c.loop-potential.invariant.3)
     (given_there s.exercise files name s.head s.entries reader on (g.F.Shelf.files c.loop-potential.shelf) later
     c.next.new.self (Err c.in-Err.fault) c.loop-potential.invariant.2 c.in-Err.ensures.gives)
+
+pub returns-in-Err-clause-word : goal.returns-in-Err-clause-word
+returns-in-Err-clause-word g c = λ place is.
+    let files = g.F.Shelf.files c.args.shelf.now in
+    let name = c.args.name.now in
+    let s = c.loop-potential.stated in
+    let reader = c.loop-potential.reader in
+    let after = c.next.new.self in
+    let on = c.loop-potential.invariant.0 in
+    let front = on.front ++ flat_map potential_line s.entries in
+    let later = Rose (g.F.Shelf.faults c.loop-potential.shelf) (g.F.Shelf.faults c.next.new.shelf) in
+    let fault : c.in-Err.fault ≡ Text (CertWord place) = cc is in
+    let known = subst (λ (f : ReadFault). GivesStated files name later front reader after (Err f)) fault
+    (given_there s.exercise files name s.head s.entries reader on (g.F.Shelf.files c.loop-potential.shelf) later after
+    (Err c.in-Err.fault) c.loop-potential.invariant.2 c.in-Err.ensures.gives) in (
+      omega (arith, c.loop-potential.invariant.5, c.next.ensures.told_word place (c.in-Err.is ∙ is)),
+      subst (λ n. EndsNear files name n after.offset) (sym known.such.0) (c.in-Err.ensures.near files name front on.at),
+    )

@@ -79,7 +79,7 @@ returns-then-not-branch-clause-gives g c = λ front at.
     c.if-not-branch.true reads in
     gives_fault files name front first c.read_on.new.self
     (given_later first after c.read_on.new.self 0 (given_later first now after 0 known.1 takes.2) over.1) c.end.result
-    (c.end.ensures files name front over.0 over.2)
+    (c.end.ensures.ends files name front over.0 over.2)
 
 pub loop-taken-preserved : goal.loop-taken-preserved
 loop-taken-preserved g c = (
