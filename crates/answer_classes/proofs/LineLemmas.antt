@@ -1,18 +1,15 @@
 -- The lines of a text, one after the other (`lines_more`, `lines_last`), and a line without its carriage return
 -- (`stripped`, `unstripped`); what is read from a line on (`line_empty`, `line_named`, `line_at_fault`).
-use Rattle.std.proofs.Common.{◌≡◌, ◌≢◌, ℕ, ◌+◌, ◌-◌, ◌<◌, ◌≤◌, ◌||◌, ◌==◌, suc, Bool, true, false, cond, List, [], ◌∷◌, ◌++◌, length, take, All, slice_index, refl, ap, sym, ◌∙◌, subst, arith, eqb-true, ne_eqb, length-append, Result, Ok, Err, Global, nat_lt, Vec, String}
+use Rattle.std.proofs.Common.{◌≡◌, ◌≢◌, ℕ, ◌+◌, ◌-◌, ◌<◌, ◌==◌, suc, Bool, true, false, cond, List, [], ◌∷◌, ◌++◌, length, take, All, slice_index, refl, ap, sym, ◌∙◌, subst, arith, eqb-true, ne_eqb, length-append, Result, Ok, Err, Global, Vec, String}
 use Rattle.std.specs.Prelude.{if◌then◌else◌}
-use Rattle.std.specs.Str.{IsUtf8, is_utf8}
 use Rattle.std.specs.List.{onto_first, slice_split}
 use Rattle.std.specs.Str.Lines.{lines, lines_of_parts, strip_carriage_return}
-use Rattle.std.proofs.lemmas.Bool.{le-ltb}
 use Rattle.std.proofs.lemmas.List.Splits.{slice_split_at, slice_split_none}
-use Rattle.std.proofs.lemmas.Str.{IsUtf8-from_is_utf8, is_utf8-from_IsUtf8}
 use Rattle.class_marker.specs.declared.list.ListFault.{ListFault}
 use Rattle.class_marker.specs.declared.list.ListFault.TheVariants.{At, Memory}
 use Rattle.class_marker.specs.Lists.{Gives}
 use Rattle.whole_lines.specs.Ended.{is_feed}
-use Rattle.answer_classes.specs.LooseLists.{PutsName, loose_names, may_be_name, names_from}
+use Rattle.answer_classes.specs.LooseLists.{PutsName, may_be_name, names_from}
 
 -- there is a first part
 record HasFirst (parts : List (List ℕ)) : Type 0 where
@@ -113,19 +110,3 @@ pub gives_fault : (fault : ListFault) (result : Result (Vec (String Global) Glob
     → Gives result (names_from 1 [] (lines text))
 gives_fault (At at) result text number names new line more e puts so_far = rw e (so_far ∙ puts more)
 gives_fault Memory result text number names new line more e puts so_far = rw e tt
-
--- ---- whole texts
-
-pub some_loose : (text : List ℕ) → length text ≤ 65536 → IsUtf8 text → loose_names text ≡ names_from 1 [] (lines text)
-some_loose text few utf8 = rw (le-ltb 65536 (length text) few, is_utf8-from_IsUtf8 text utf8) refl
-
-or-true : (b : Bool) → (b || true) ≡ true
-or-true true = refl
-or-true false = refl
-
-by_utf8 : (text : List ℕ) (test : Bool) → is_utf8 text ≡ test → (IsUtf8 text → ⊥) → loose_names text ≡ Err 1
-by_utf8 text true is none = absurd (none (IsUtf8-from_is_utf8 text is))
-by_utf8 text false is none = rw (is, or-true (nat_lt 65536 (length text))) refl
-
-pub none_loose : (text : List ℕ) → (IsUtf8 text → ⊥) → loose_names text ≡ Err 1
-none_loose text none = by_utf8 text (is_utf8 text) refl none

@@ -11,7 +11,8 @@ use Rattle.answer_classes.specs.declared.said.Said.TheVariants.{Told, Refused, U
 abbrev pub Saying : Type 0
 Saying = List ℕ × Said
 
--- what is said of the file of a name, below the name: the lines that tell of it, why it is refused, or that it can't be read
+-- what is said of the file of a name, below the name: the lines that tell of it, why it is refused,
+-- or that it can't be read
 abbrev pub said_text : Saying → List ℕ
 said_text (name, Told lines) = name ++ 10 ∷ string_bytes lines.text
 said_text (name, Refused why) = name ++ 10 ∷ unmarked_text name why ++ 10 ∷ []
@@ -49,11 +50,12 @@ abbrev pub line_end : Bool → ℕ → List ℕ
 line_end false others = 10 ∷ []
 line_end true others = codes ", differing " ++ decimal others ++ 10 ∷ []
 
--- the last line but for its end: how many names there are, how many of their files have a mark, and how many are refused or
--- can't be read
+-- the last line but for its end: how many names there are, how many of their files have a mark, and
+-- how many are refused or can't be read
 abbrev pub counts_text : ℕ → ℕ → ℕ → List ℕ
 counts_text count marked refused =
-    codes "class " ++ decimal count ++ codes ", with marks " ++ decimal marked ++ codes ", refused " ++ decimal refused
+    codes "class " ++ decimal count ++ codes ", with marks " ++ decimal marked
+    ++ codes ", refused " ++ decimal refused
 
 -- the last line
 abbrev pub whole_line : Bool → ℕ → ℕ → ℕ → ℕ → List ℕ
@@ -64,7 +66,8 @@ whole_line by_lesson count marked refused others =
 abbrev pub whole_text : Bool → List Saying → List ℕ
 whole_text by_lesson sayings =
     flat_map said_text sayings
-    ++ whole_line by_lesson (length sayings) (marked_in sayings) (refused_in sayings) (others_in sayings)
+    ++ whole_line by_lesson (length sayings) (marked_in sayings) (refused_in sayings)
+    (others_in sayings)
 
 -- the report without its last line, and the counts of that
 pub record IsReportOf (sayings : List Saying) (report : WholeReport) : Type 0 where
@@ -74,8 +77,9 @@ pub record IsReportOf (sayings : List Saying) (report : WholeReport) : Type 0 wh
   pub others : report.others ≡ others_in sayings
 
 -- the whole report
-pub record IsWholeOf (by_lesson : Bool) (sayings : List Saying) (report : WholeReport) : Type 0 where
-  pub text : string_bytes report.text ≡ whole_text by_lesson sayings
-  pub marked : report.marked ≡ marked_in sayings
-  pub refused : report.refused ≡ refused_in sayings
-  pub others : report.others ≡ others_in sayings
+pub record IsWholeOf (by_lesson : Bool) (sayings : List Saying) (report : WholeReport) : Type 0
+  where
+    pub text : string_bytes report.text ≡ whole_text by_lesson sayings
+    pub marked : report.marked ≡ marked_in sayings
+    pub refused : report.refused ≡ refused_in sayings
+    pub others : report.others ≡ others_in sayings

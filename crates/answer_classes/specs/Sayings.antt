@@ -54,7 +54,8 @@ pub record SaysTextOf (lesson : Exercise) (bytes : List ℕ) (said : Said) : Typ
 abbrev pub IsSaidBy : Exercise → List ℕ → Said → Type 0
 IsSaidBy lesson bytes (Told lines) = SaysTextOf lesson bytes (Told lines)
 IsSaidBy lesson bytes (Refused (unmarked.Text kind line column)) = HasFault bytes kind line column
-IsSaidBy lesson bytes (Refused unmarked.NoSetting) = SaysTextOf lesson bytes (Refused unmarked.NoSetting)
+IsSaidBy lesson bytes (Refused unmarked.NoSetting) =
+    SaysTextOf lesson bytes (Refused unmarked.NoSetting)
 IsSaidBy lesson bytes Unread = ⊥
 
 -- ---- both
@@ -66,7 +67,8 @@ IsSaid (Some lesson) bytes said = IsSaidBy lesson bytes said
 
 -- this is said of each text of which no more than 65,536 bytes are read, and of which this was read
 abbrev pub IsSaidOfText : Option Exercise → Text → Said → Type 0
-IsSaidOfText lesson text said = (bytes : List ℕ) → IsContent 65536 text bytes → IsSaid lesson bytes said
+IsSaidOfText lesson text said =
+    (bytes : List ℕ) → IsContent 65536 text bytes → IsSaid lesson bytes said
 
 -- and this where it could not be read
 abbrev pub IsSaidOf : Option Exercise → Option Text → Said → Type 0

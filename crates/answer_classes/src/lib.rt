@@ -1,5 +1,5 @@
-//! The report of a class in which each name has its place, also where its file can't be read: the answers to a lesson, or
-//! exercises by themselves.
+//! The report of a class in which each name has its place, also where its file can't be read: the
+//! answers to a lesson, or exercises by themselves.
 #![tactic(auto)]
 
 mod loose_list;

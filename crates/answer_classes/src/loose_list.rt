@@ -7,7 +7,7 @@ ghost use Rattle.class_marker.specs.Markings.{IsContent};
 ghost use Rattle.answer_classes.specs.LooseLists as words;
 ghost use Rattle.answer_classes.specs.LooseLists.{PutsName, loose_names, names_from};
 
-use class_marker::{ListFault, Text};
+use class_marker::{ListFault, Text, listed_text};
 use std::alloc::Global;
 
 /// The greatest number of names.
@@ -52,7 +52,8 @@ fn put_name(
     number: u32,
     line: &str,
 ) -> Result<(), ListFault>
-    ensures { PutsName (map string_bytes names.old.items) number line.now (map string_bytes names.new.items) result }
+    ensures { PutsName (map string_bytes names.old.items) number line.now
+        (map string_bytes names.new.items) result }
 {
     if line.is_empty() {
         return Ok(());
@@ -84,20 +85,16 @@ fn names_in(alloc: Global, text: &str) -> Result<Vec<String>, ListFault>
     Ok(names)
 }
 
-/// The names that a list has, in its order, as people write it: a line may end with a carriage return and a line feed, the last
-/// one without either, and a line may be empty. A list has at most 65,536 bytes of UTF-8 and 1 to 512 names, each of at most
-/// 255 bytes. A list that is too long, without a name or no UTF-8 is at fault in line 1.
+/// The names that a list has, in its order, as people write it: a line may end with a carriage
+/// return and a line feed, the last one without either, and a line may be empty. A list has at most
+/// 65,536 bytes of UTF-8 and 1 to 512 names, each of at most 255 bytes. A list that is too long,
+/// without a name or no UTF-8 is at fault in line 1.
 pub fn read_loose_list(alloc: Global, list: &Text) -> Result<Vec<String>, ListFault>
-    ensures { (bytes : List ℕ) → IsContent 65536 list.now bytes → Gives result (loose_names bytes) }
+    ensures { (bytes : List ℕ) → IsContent 65536 list.now bytes
+        → Gives result (loose_names bytes) }
 {
-    let Text::Bytes(bytes) = list else {
-        return Err(ListFault::At { line: 1 });
-    };
-    if bytes.len() > 65_536 {
-        return Err(ListFault::At { line: 1 });
-    }
-    match std::str::from_utf8(bytes) {
-        Ok(text) => names_in(alloc, text),
-        Err(_) => Err(ListFault::At { line: 1 }),
+    match listed_text(list) {
+        Some(text) => names_in(alloc, text),
+        None => Err(ListFault::At { line: 1 }),
     }
 }

@@ -38,7 +38,8 @@ impl WholeReport {
 
 /// Appends what is said of the file of a name.
 fn put_text(text: &mut String, name: &str, said: &Said) -> Result<(), Memory>
-    ensures { OnOk result (string_bytes text.new ≡ string_bytes text.old ++ said_text (name.now, said.now)) }
+    ensures { OnOk result (string_bytes text.new ≡ string_bytes text.old
+        ++ said_text (name.now, said.now)) }
 {
     text.push_str(name)?;
     text.push('\n')?;
@@ -102,7 +103,8 @@ pub fn put_said(report: &mut WholeReport, name: &str, said: &Said) -> Result<(),
 
 /// Appends the last line but for its end.
 fn put_counts(text: &mut String, count: usize, marked: usize, refused: usize) -> Result<(), Memory>
-    ensures { OnOk result (string_bytes text.new ≡ string_bytes text.old ++ counts_text count marked refused) }
+    ensures { OnOk result (string_bytes text.new ≡ string_bytes text.old
+        ++ counts_text count marked refused) }
 {
     write!(
         text,
@@ -113,7 +115,8 @@ fn put_counts(text: &mut String, count: usize, marked: usize, refused: usize) ->
 
 /// Appends the end of the last line.
 fn put_end(text: &mut String, by_lesson: bool, others: usize) -> Result<(), Memory>
-    ensures { OnOk result (string_bytes text.new ≡ string_bytes text.old ++ line_end by_lesson others) }
+    ensures { OnOk result (string_bytes text.new ≡ string_bytes text.old
+        ++ line_end by_lesson others) }
 {
     if by_lesson {
         write!(text, ", differing {others}\n")?;

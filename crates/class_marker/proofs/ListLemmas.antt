@@ -1,6 +1,6 @@
 -- What is read of a list from a line on (`from`): one name more (`one_name`), the fault of a line
 -- (`wrong_name`, `no_name`), or all names (`all_names`).
-use Rattle.std.proofs.Common.{◌≡◌, ℕ, ◌+◌, ◌<◌, ◌≤◌, ◌==◌, ◌≢◌, ◌↔◌, Bool, true, false, ◌&&◌, List, [], ◌∷◌, ◌++◌, length, get_or, Bor, Option, None, Some, Result, Ok, Err, ne_eqb, refl, ◌∙◌, arith}
+use Rattle.std.proofs.Common.{◌≡◌, ℕ, ◌+◌, ◌<◌, ◌==◌, ◌≢◌, ◌↔◌, Bool, true, false, ◌&&◌, List, [], ◌∷◌, ◌++◌, length, get_or, Bor, Option, None, Some, Result, Ok, Err, ne_eqb, refl, ◌∙◌, arith}
 use Rattle.std.specs.Prelude.{MatchOption, nat_lt, not, ◌||◌, if◌then◌else◌}
 use Rattle.std.specs.Str.{IsUtf8, is_utf8}
 use Rattle.std.proofs.lemmas.Bool.{le-ltb, ltb-false, not-false, or_parts}
@@ -11,7 +11,7 @@ use Rattle.text_lines.specs.Rows.{row_in, run_in, told_beyond}
 use Rattle.whole_lines.specs.Ended.{IsText, IsTextFault, by_kind, ended, is_feed, placed, said, whole_text}
 use Rattle.whole_lines.specs.Texts.{CutsLine, HasNone}
 use Rattle.whole_lines.proofs.EndedLemmas.{ended-last, ended-word, text-read, without-end, without-none}
-use Rattle.class_marker.specs.Lists.{IsListed, is_name, listed_names, names_row, names_run}
+use Rattle.class_marker.specs.Lists.{IsListed, is_name, listed_by, listed_names, names_row, names_run}
 
 -- what is read from a line on, behind these names
 unfoldable pub from : List ℕ → ℕ → List (List ℕ) → List ℕ → Result (List (List ℕ)) ℕ
@@ -60,20 +60,6 @@ no_feed_in xs none = λ k d within. ne_eqb (get_or xs k d) 10 (λ e. none k with
 
 -- ---- whole texts
 
-pub some_listed : (text : List ℕ) → length text ≤ 65536 → IsUtf8 text → listed_names text ≡ said is_feed names_row text
-some_listed text few utf8 = rw (le-ltb 65536 (length text) few, is_utf8-from_IsUtf8 text utf8) refl
-
-or-true : (b : Bool) → (b || true) ≡ true
-or-true true = refl
-or-true false = refl
-
-by_utf8 : (text : List ℕ) (test : Bool) → is_utf8 text ≡ test → (IsUtf8 text → ⊥) → listed_names text ≡ Err 1
-by_utf8 text true is none = absurd (none (IsUtf8-from_is_utf8 text is))
-by_utf8 text false is none = rw (is, or-true (nat_lt 65536 (length text))) refl
-
-pub none_listed : (text : List ℕ) → (IsUtf8 text → ⊥) → listed_names text ≡ Err 1
-none_listed text none = by_utf8 text (is_utf8 text) refl none
-
 fits : (text : List ℕ) → (nat_lt 65536 (length text) || not (is_utf8 text)) ≡ false → IsListed text
 fits text ok =
     let parts = or_parts _ _ ok in
@@ -82,6 +68,20 @@ fits text ok =
 misfits : (text : List ℕ) → (nat_lt 65536 (length text) || not (is_utf8 text)) ≡ true → IsListed text → ⊥
 misfits text bad (few, utf8) =
     absurd (grind (arith, bad, le-ltb 65536 (length text) few, is_utf8-from_IsUtf8 text utf8))
+
+-- what the lines of a list say, and that nothing else is one
+module _ (says : List ℕ → Result (List (List ℕ)) ℕ) (text : List ℕ) where
+  pub some_listed : IsListed text → listed_by says text ≡ says text
+  some_listed listed =
+      rw (le-ltb 65536 (length text) listed.0, is_utf8-from_IsUtf8 text listed.1) refl
+
+  pub none_listed : (IsListed text → ⊥) → listed_by says text ≡ Err 1
+  none_listed none = by (nat_lt 65536 (length text) || not (is_utf8 text)) refl
+    where
+      by : (test : Bool) → (nat_lt 65536 (length text) || not (is_utf8 text)) ≡ test
+          → (if test then Err 1 else says text) ≡ Err 1
+      by true is = refl
+      by false is = absurd (none (fits text is))
 
 pub lists : (text : List ℕ)
     → ((names : List (List ℕ)) → IsText (IsListed text) is_feed names_row text names ↔ (listed_names text ≡ Ok names))

@@ -28,11 +28,13 @@ names_run = record {
 abbrev pub names_row : Row ℕ (List (List ℕ))
 names_row = Row.runs names_run []
 
--- the names in a list, or the number of its first line at fault: a text that is too long or no
--- UTF-8 is so in line 1
+-- the names in a list, or the number of its first line at fault, by what its lines say: a text that
+-- is too long or no UTF-8 is at fault in line 1
+abbrev pub listed_by : (List ℕ → Result (List (List ℕ)) ℕ) → List ℕ → Result (List (List ℕ)) ℕ
+listed_by says text = if nat_lt 65536 (length text) || not (is_utf8 text) then Err 1 else says text
+
 abbrev pub listed_names : List ℕ → Result (List (List ℕ)) ℕ
-listed_names text =
-    if nat_lt 65536 (length text) || not (is_utf8 text) then Err 1 else said is_feed names_row text
+listed_names text = listed_by (said is_feed names_row) text
 
 -- what is read is this, unless memory runs out
 abbrev pub Gives : Result (Vec (String Global) Global) ListFault → Result (List (List ℕ)) ℕ → Type 0

@@ -1,7 +1,7 @@
 //! The list of a class: the names of the files that its exercises stand in.
 
-ghost use Rattle.std.specs.Prelude.{◌≡◌, ◌&&◌, ℕ, ◌≤◌, List, length, nat_lt};
-ghost use Rattle.class_marker.specs.Lists.{Gives, ListFaultsAreRead, ListsAreRead, is_name, listed_names, names_row};
+ghost use Rattle.std.specs.Prelude.{◌≡◌, ◌&&◌, ℕ, ◌≤◌, IfSome, List, MatchOption, length, nat_lt};
+ghost use Rattle.class_marker.specs.Lists.{Gives, IsListed, ListFaultsAreRead, ListsAreRead, is_name, listed_names, names_row};
 ghost use Rattle.class_marker.specs.Markings.{IsContent};
 ghost use Rattle.whole_lines.specs.Ended.{is_feed, said};
 ghost use Rattle.whole_lines.specs.Texts.{CutsLine};
@@ -83,6 +83,24 @@ fn names_in(alloc: Global, text: &str) -> Result<Vec<String>, ListFault>
     Ok(names)
 }
 
+/// The text of a list, where it is one: at most 65,536 bytes of UTF-8.
+pub fn listed_text(list: &Text) -> Option<&str>
+    ensures text { (bytes : List ℕ) → IsContent 65536 list.now bytes
+        → MatchOption result (IsListed bytes → ⊥) (λ text. IsListed bytes × (text.now ≡ bytes)) }
+    ensures few { IfSome result (λ text. length text.now ≤ 65536) }
+{
+    let Text::Bytes(bytes) = list else {
+        return None;
+    };
+    if bytes.len() > 65_536 {
+        return None;
+    }
+    match std::str::from_utf8(bytes) {
+        Ok(text) => Some(text),
+        Err(_) => None,
+    }
+}
+
 /// The names that a list has, in its order. A list has at most 65,536 bytes of UTF-8 in 1 to 512
 /// lines, and each line is a name of 1 to 255 bytes with a line feed behind it. A list that is too
 /// long, empty or no UTF-8 is at fault in line 1.
@@ -90,15 +108,9 @@ pub fn read_list(alloc: Global, list: &Text) -> Result<Vec<String>, ListFault>
     ensures { (bytes : List ℕ) → IsContent 65536 list.now bytes
         → Gives result (listed_names bytes) }
 {
-    let Text::Bytes(bytes) = list else {
-        return Err(ListFault::At { line: 1 });
-    };
-    if bytes.len() > 65_536 {
-        return Err(ListFault::At { line: 1 });
-    }
-    match std::str::from_utf8(bytes) {
-        Ok(text) => names_in(alloc, text),
-        Err(_) => Err(ListFault::At { line: 1 }),
+    match listed_text(list) {
+        Some(text) => names_in(alloc, text),
+        None => Err(ListFault::At { line: 1 }),
     }
 }
 
