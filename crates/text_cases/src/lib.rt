@@ -1,7 +1,6 @@
-//! Worked values of pitches, columns and exercises, of shelves and sinks; note texts with what
-//! reading answers of each, other texts and MIDI files at the edges of what is read, and those that
-//! are written. They stand above the crates that they try, so that what carries the proofs is proved
-//! once.
+//! Note texts with what reading answers of each, other texts and MIDI files at the edges of what is
+//! read, and those that are written. They stand above the crates that they try, so that what carries
+//! the proofs is proved once.
 #![tactic(auto)]
 
 #[cfg(test)]
@@ -30,7 +29,5 @@ mod readers;
 mod sheets;
 #[cfg(test)]
 mod tests;
-#[cfg(test)]
-mod values;
 #[cfg(test)]
 mod writing;

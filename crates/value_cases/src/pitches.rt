@@ -2,8 +2,8 @@
 
 ghost use Rattle.std.specs.Prelude.{pos, negsuc, ◌≤ℤ◌, ◌<◌};
 
-use crate::values::menus::is_shared;
-use crate::values::tables::{compare, number, word};
+use crate::menus::is_shared;
+use crate::tables::{compare, number, word};
 use fux_pitch::{
     AnyList, Interval, Label, List, Memory, Mode, Pitch, final_letter, in_gamut, interval_of,
     is_consonant, is_imperfect, is_perfect, leading, name, parse_pitch, reduce, semitone, spell,

@@ -3,7 +3,7 @@
 
 ghost use Rattle.std.specs.Prelude.{ℕ, None, ◌^◌, ◌<◌, ◌≤◌, ⊤};
 
-use crate::values::tables::{compare, word};
+use crate::tables::{compare, word};
 use fux_port::{
     DiskShelf, Failed, MemShelf, MemSink, Shelf, Sink, StdSink, WholeFault, read_whole, write_all,
 };
