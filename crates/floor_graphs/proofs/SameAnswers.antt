@@ -57,6 +57,9 @@ module _ (live sum : List ℕ → Option ℕ) (width : List ℕ → ℕ) (height
   pub none_from_sharpened : HasNoLeaf (sharpened live sum) height → HasNoLeaf live height
   none_from_sharpened h path value leaf = h path value (to path value leaf)
 
+  pub bounds_to_sharpened : (bound : ℕ) → BoundsLeaves live height bound → BoundsLeaves (sharpened live sum) height bound
+  bounds_to_sharpened bound h path value leaf = h path value (from path value leaf)
+
   pub bounds_from_sharpened : (bound : ℕ) → BoundsLeaves (sharpened live sum) height bound
       → BoundsLeaves live height bound
   bounds_from_sharpened bound h path value leaf = h path value (to path value leaf)

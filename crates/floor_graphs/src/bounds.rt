@@ -1,5 +1,5 @@
 //! The search in depth below caps that are guessed and raised.
-ghost use Rattle.std.specs.Prelude.{◌≡◌, ◌<◌, IfOk};
+ghost use Rattle.std.specs.Prelude.{◌≡◌, ◌<◌, ◌≤◌, IfOk};
 ghost use Rattle.tree_search.specs.Answer.{IsFirstLeast, HasNoLeaf, BoundsLeaves, IsOverBudget};
 ghost use Rattle.tree_search.specs.Outcomes.{IfFound, OnNothing, IfSpent, IsSpent};
 ghost use Rattle.floor_graphs.specs.Sameness.{AgreesWithAnswers};
@@ -30,8 +30,8 @@ fn more_values(round: usize) -> u64
 }
 
 /// Searches in depth below a cap, where that finds nothing below a higher one, and so on: the bound
-/// of all leaves then lies above the cap before. Each round has the whole budget. The outcome is
-/// never `Nothing`.
+/// of all leaves then lies above the cap before, and never falls. Each round has the whole budget.
+/// The outcome is never `Nothing`.
 fn search_rounds<S: Space>(
     alloc: Global,
     space: &S,
@@ -45,6 +45,7 @@ fn search_rounds<S: Space>(
         (λ outcome. OnNothing outcome (HasNoLeaf (S.live space.now) (S.height space.now))) }
     ensures bound { IfOk result (λ outcome. IfSpent outcome (BoundsLeaves (S.live space.now)
         (S.height space.now))) }
+    ensures kept { IfOk result (λ outcome. IfSpent outcome (λ least. bound ≤ least)) }
 {
     let mut low = bound;
     for round in 0..ROUNDS {
@@ -68,14 +69,22 @@ fn search_rounds<S: Space>(
 /// leave out what is above a cap: where the bound is the least value, a round is done with the
 /// first leaf that it meets. They look for one value after another at first, and for more and more
 /// at once later on, so that a tree without leaves doesn't take too many of them. Each may spend
-/// the whole budget. Where they come to nothing, the front has the whole budget.
-pub fn search_by_bounds<S: Space>(alloc: Global, space: &S, budget: u32) -> Result<Outcome, Memory>
+/// the whole budget. Where they come to nothing, the front has the whole budget. A bound that is
+/// known of all leaves already is where the rounds begin at least.
+pub fn search_by_bounds<S: Space>(
+    alloc: Global,
+    space: &S,
+    known: u64,
+    budget: u32,
+) -> Result<Outcome, Memory>
+    requires { BoundsLeaves (S.live space.now) (S.height space.now) known }
     ensures found { IfOk result (λ outcome. IfFound outcome (IsFirstLeast (S.live space.now)
         (S.height space.now))) }
     ensures nothing { IfOk result
         (λ outcome. OnNothing outcome (HasNoLeaf (S.live space.now) (S.height space.now))) }
     ensures bound { IfOk result (λ outcome. IfSpent outcome (BoundsLeaves (S.live space.now)
         (S.height space.now))) }
+    ensures kept { IfOk result (λ outcome. IfSpent outcome (λ least. known ≤ least)) }
 
     // It ends wherever the front does.
     ensures over { IfOk result (λ outcome. IsSpent outcome → IsOverBudget (S.live space.now)
@@ -83,7 +92,7 @@ pub fn search_by_bounds<S: Space>(alloc: Global, space: &S, budget: u32) -> Resu
     ensures agrees { IfOk result (AgreesWithAnswers (S.live space.now) (S.height space.now)) }
 {
     let bound = match search_front(alloc, space, budget.min(FIRST_BUDGET))? {
-        Outcome::Spent { bound } => bound,
+        Outcome::Spent { bound } => bound.max(known),
         answer => return Ok(answer),
     };
     let bound = match search_rounds(alloc, space, bound, budget)? {

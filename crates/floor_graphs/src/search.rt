@@ -1,6 +1,6 @@
 //! The search of a sharpened space, told of the space itself.
 
-ghost use Rattle.std.specs.Prelude.{◌≡◌, IfOk};
+ghost use Rattle.std.specs.Prelude.{◌≡◌, ◌≤◌, IfOk};
 ghost use Rattle.tree_search.specs.Answer.{IsFirstLeast, HasNoLeaf, BoundsLeaves, IsOverBudget};
 ghost use Rattle.tree_search.specs.Outcomes.{IfFound, OnNothing, IfSpent, IsSpent};
 ghost use Rattle.floor_graphs.specs.Sameness.{AgreesWithAnswers};
@@ -15,14 +15,23 @@ use tree_search::Outcome;
 
 /// The first leaf of least value of the guide's space, by bounds over its sharpened floors
 /// (`search_by_bounds`). Where the budget is enough the answer is that of any search of the space
-/// itself; where it isn't, each leaf has at least the bound for a value.
-pub fn search_sharpened<G: Guide>(alloc: Global, guide: &G, budget: u32) -> Result<Outcome, Memory>
+/// itself; where it isn't, each leaf has at least the bound for a value. A bound of all leaves may
+/// be known already.
+pub fn search_sharpened<G: Guide>(
+    alloc: Global,
+    guide: &G,
+    known: u64,
+    budget: u32,
+) -> Result<Outcome, Memory>
+    requires { BoundsLeaves (G.Tree.live (G.tree guide.now)) (G.Tree.height (G.tree guide.now))
+        known }
     ensures found { IfOk result (λ outcome. IfFound outcome (IsFirstLeast (G.Tree.live (G.tree guide.now))
         (G.Tree.height (G.tree guide.now)))) }
     ensures nothing { IfOk result (λ outcome. OnNothing outcome (HasNoLeaf (G.Tree.live (G.tree guide.now))
         (G.Tree.height (G.tree guide.now)))) }
     ensures bound { IfOk result (λ outcome. IfSpent outcome (BoundsLeaves (G.Tree.live (G.tree guide.now))
         (G.Tree.height (G.tree guide.now)))) }
+    ensures kept { IfOk result (λ outcome. IfSpent outcome (λ least. known ≤ least)) }
 
     // It ends wherever a front over the sharpened floors does, and so wherever one over the space's
     // own floors does.
@@ -34,5 +43,5 @@ pub fn search_sharpened<G: Guide>(alloc: Global, guide: &G, budget: u32) -> Resu
     ensures agrees { IfOk result (AgreesWithAnswers (G.Tree.live (G.tree guide.now))
         (G.Tree.height (G.tree guide.now))) }
 {
-    search_by_bounds(alloc, &Sharpened { guide }, budget)
+    search_by_bounds(alloc, &Sharpened { guide }, known, budget)
 }

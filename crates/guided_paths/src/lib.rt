@@ -202,7 +202,7 @@ mod tests {
                 costs: Vec::from_slice(rt.alloc(), costs)?,
             };
             let guided = GuidedGrid::new(rt.alloc(), &grid)?;
-            assert!(rt; is_wanted(&search_sharpened(rt.alloc(), &guided, *budget)?, want));
+            assert!(rt; is_wanted(&search_sharpened(rt.alloc(), &guided, 0, *budget)?, want));
         }
         Ok(())
     }
@@ -261,8 +261,28 @@ mod tests {
             let grid = Grid {
                 costs: Vec::from_slice(rt.alloc(), costs)?,
             };
-            assert!(rt; is_wanted(&search_by_bounds(rt.alloc(), &grid, *budget)?, want));
+            assert!(rt; is_wanted(&search_by_bounds(rt.alloc(), &grid, 0, *budget)?, want));
         }
+        Ok(())
+    }
+
+    /// Where a search was spent the next one begins.
+    #[test]
+    fn goes_on_from_a_bound(rt: HostRuntime) -> Result<(), Fail> {
+        let grid = Grid {
+            costs: Vec::from_slice(
+                rt.alloc(),
+                &[[Some(0); COLUMNS], [Some(100), Some(99), Some(100)]],
+            )?,
+        };
+        let Outcome::Spent { bound } = search_by_bounds(rt.alloc(), &grid, 0, 4)? else {
+            return Err("not spent".into());
+        };
+        // rounds at 78 to 93, which open the first row; then from 94 and 96 on: the last one leaves
+        // out what is worth 100, and opens the first row and the leaf worth 99
+        let want = Want::Found(&[0, 1], 99);
+        assert!(rt; bound == 78);
+        assert!(rt; is_wanted(&search_by_bounds(rt.alloc(), &grid, bound, 4)?, &want));
         Ok(())
     }
 
@@ -321,7 +341,7 @@ mod tests {
         };
         let guided = GuidedGrid::new(rt.alloc(), &grid)?;
         let want = Want::Found(&[1, 0], 2);
-        assert!(rt; is_wanted(&search_sharpened(rt.alloc(), &guided, 100)?, &want));
+        assert!(rt; is_wanted(&search_sharpened(rt.alloc(), &guided, 0, 100)?, &want));
         assert!(rt; is_wanted(&search_front(rt.alloc(), &grid, 100)?, &want));
         Ok(())
     }

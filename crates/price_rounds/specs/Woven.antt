@@ -1,6 +1,6 @@
 -- The web of what is kept of the settings of an exercise (`IsWoven`), and what a try to find the
 -- best of them answers (`IsTry`).
-use Rattle.std.specs.Prelude.{[]}
+use Rattle.std.specs.Prelude.{◌≤◌, ℕ, []}
 use Rattle.fux_grid.specs.declared.exercise.Exercise.{Exercise}
 use Rattle.fux_grid.specs.Exercises.{columns_in}
 use Rattle.penalty_sheet.specs.declared.sheet.Sheet.{Sheet}
@@ -20,9 +20,10 @@ abbrev pub IsWoven : Exercise → Sheet → Keeps → Web Kept → Type 0
 IsWoven ex sheet keeps web = IsWeb (kept_of ex keeps []) (columns_in ex) (breadth_of ex) (step_of ex sheet keeps) web
 
 -- what is found is the first best setting, where nothing is found there is none, the bound of a
--- spent try is one of all, and whatever ends answers the same
-pub record IsTry (ex : Exercise) (sheet : Sheet) (outcome : Outcome) : Type 0 where
+-- spent try is one of all and at least the one that is known, and whatever ends answers the same
+pub record IsTry (ex : Exercise) (sheet : Sheet) (known : ℕ) (outcome : Outcome) : Type 0 where
   pub found : IfFound outcome (IsFirstLeast (live_at ex sheet) (columns_in ex))
   pub nothing : OnNothing outcome (HasNoLeaf (live_at ex sheet) (columns_in ex))
   pub bound : IfSpent outcome (BoundsLeaves (live_at ex sheet) (columns_in ex))
+  pub kept : IfSpent outcome (λ least. known ≤ least)
   pub agrees : AgreesWithAnswers (live_at ex sheet) (columns_in ex) outcome

@@ -11,10 +11,10 @@ use priced_floors::{CASES, Charges, PITCHES, Prices, SCALE, Summit};
 use std::alloc::Global;
 
 /// How many rounds there are at most over a web, for all cases together.
-const ROUNDS: usize = 300;
+pub const ROUNDS: usize = 300;
 
 /// How many there are at most over a larger web, from the prices of the first one on.
-const MORE_ROUNDS: usize = 100;
+pub const MORE_ROUNDS: usize = 100;
 
 /// How far above the sum the aim is at first, and where prices are known already.
 const FIRST_AIM: i64 = 64;
@@ -605,8 +605,8 @@ impl Bids {
         })
     }
 
-    /// So many rounds at most.
-    fn go_on(
+    /// Seeks prices by the ways through a web, in so many rounds at most.
+    pub fn seek(
         &mut self,
         alloc: Global,
         ways: &Ways,
@@ -631,19 +631,13 @@ impl Bids {
         Ok(())
     }
 
-    /// Seeks prices by the ways through a web.
-    pub fn seek(&mut self, alloc: Global, ways: &Ways, charges: &Charges) -> Result<(), Memory> {
-        self.go_on(alloc, ways, charges, ROUNDS)
-    }
-
-    /// Seeks them by the ways through a larger web, from the best ones on.
-    pub fn seek_on(&mut self, alloc: Global, ways: &Ways, charges: &Charges) -> Result<(), Memory> {
+    /// Begins anew, with the best prices.
+    pub fn begin_again(&mut self) {
         for k in 0..self.bids.len() {
             if let Some(bid) = self.bids.get_mut(k) {
                 bid.begin_again();
             }
         }
-        self.go_on(alloc, ways, charges, MORE_ROUNDS)
     }
 
     /// Raises the best prices for the later part.

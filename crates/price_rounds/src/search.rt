@@ -35,6 +35,18 @@ const MOST_BUDGET: u32 = 65_536;
 /// the best setting, these tell sooner which of them lead to none.
 const RAISED_BUDGET: u32 = 131_072;
 
+/// How many edges a web may have whatever the budget is, and how many more for each prefix that may
+/// be opened.
+const EDGES: usize = 500_000;
+
+const EDGES_OF_A_PREFIX: usize = 6;
+
+/// How many edges a web may have, which cost a part of what a prefix does each: so the budget bounds
+/// the webs as well.
+fn room_for(budget: u32) -> usize {
+    EDGES + EDGES_OF_A_PREFIX * budget as usize
+}
+
 /// The charges without prices, by which webs are made and prices are sought.
 fn plain_charges(alloc: Global, space: &SpeciesSpace<'_>) -> Result<Charges, Memory>
     ensures fair { IfOk result (λ charges. AreFairCharges charges space.now.sheet) }
@@ -54,9 +66,12 @@ fn search_woven(
     woven: &Woven,
     voice: u8,
     prices: &[Prices],
+    known: u64,
     budget: u32,
 ) -> Result<Outcome, Memory>
     requires valid { IsValid space.now.exercise }
+    requires known { BoundsLeaves (live_at space.now.exercise space.now.sheet)
+        (columns_in space.now.exercise) known }
     requires web { IsWoven space.now.exercise space.now.sheet woven.now.keeps woven.now.web }
     ensures found { IfOk result
         (λ outcome. IfFound outcome (IsFirstLeast (live_at space.now.exercise space.now.sheet)
@@ -67,6 +82,7 @@ fn search_woven(
     ensures bound { IfOk result
         (λ outcome. IfSpent outcome (BoundsLeaves (live_at space.now.exercise space.now.sheet)
         (columns_in space.now.exercise))) }
+    ensures kept { IfOk result (λ outcome. IfSpent outcome (λ least. known ≤ least)) }
     ensures over { IfOk result (λ outcome. IsSpent outcome
         → IsOverBudget (live_at space.now.exercise space.now.sheet) (columns_in space.now.exercise)
         budget) }
@@ -76,7 +92,7 @@ fn search_woven(
     let keys = summit_keys(alloc, space, voice)?;
     let charges = Charges::new(alloc, space.sheet(), prices, voice, &keys)?;
     let priced = PricedSpace::new(alloc, space, woven.keeps, &charges)?;
-    search_web(alloc, &priced, &woven.web, budget)
+    search_web(alloc, &priced, &woven.web, known, budget)
 }
 
 /// The first leaf of least value within a part of the budget, by floors that keep least. None where
@@ -86,22 +102,25 @@ fn search_least(
     space: &SpeciesSpace<'_>,
     plain: &Charges,
     bids: &mut Bids,
+    known: u64,
     budget: u32,
 ) -> Result<Option<Outcome>, Memory>
     requires valid { IsValid space.now.exercise }
+    requires known { BoundsLeaves (live_at space.now.exercise space.now.sheet)
+        (columns_in space.now.exercise) known }
     requires fair { AreFairCharges plain.now space.now.sheet }
     requires small { AreSmallCharges MOST_CHARGE plain.now }
     requires scale { plain.now.scale ≡ SCALE }
     requires few { length plain.now.summits.items ≤ CASES }
-    ensures { IfOk result (λ tried. IfSome tried (IsTry space.now.exercise space.now.sheet)) }
+    ensures { IfOk result (λ tried. IfSome tried (IsTry space.now.exercise space.now.sheet known)) }
 {
-    let Some(least) = weave(alloc, space, Keeps::least(), plain)? else {
+    let Some(least) = weave(alloc, space, Keeps::least(), plain, room_for(budget))? else {
         return Ok(None);
     };
-    least.seek(alloc, plain, bids)?;
+    least.seek(alloc, plain, bids, budget)?;
     let prices = bids.prices(alloc)?;
     let part = budget.min(LEAST_BUDGET);
-    let outcome = search_woven(alloc, space, &least, plain.voice, &prices, part)?;
+    let outcome = search_woven(alloc, space, &least, plain.voice, &prices, known, part)?;
     Ok(Some(outcome))
 }
 
@@ -114,9 +133,12 @@ fn search_raised(
     voice: u8,
     raised: &[Prices],
     prices: &[Prices],
+    known: u64,
     budget: u32,
 ) -> Result<Outcome, Memory>
     requires valid { IsValid space.now.exercise }
+    requires known { BoundsLeaves (live_at space.now.exercise space.now.sheet)
+        (columns_in space.now.exercise) known }
     requires web { IsWoven space.now.exercise space.now.sheet woven.now.keeps woven.now.web }
     ensures found { IfOk result
         (λ outcome. IfFound outcome (IsFirstLeast (live_at space.now.exercise space.now.sheet)
@@ -127,6 +149,7 @@ fn search_raised(
     ensures bound { IfOk result
         (λ outcome. IfSpent outcome (BoundsLeaves (live_at space.now.exercise space.now.sheet)
         (columns_in space.now.exercise))) }
+    ensures kept { IfOk result (λ outcome. IfSpent outcome (λ least. known ≤ least)) }
     ensures over { IfOk result (λ outcome. IsSpent outcome
         → IsOverBudget (live_at space.now.exercise space.now.sheet) (columns_in space.now.exercise)
         budget) }
@@ -134,8 +157,8 @@ fn search_raised(
         (columns_in space.now.exercise)) }
 {
     let part = budget.min(RAISED_BUDGET);
-    match search_woven(alloc, space, woven, voice, raised, part)? {
-        Outcome::Spent { .. } => search_woven(alloc, space, woven, voice, prices, budget),
+    match search_woven(alloc, space, woven, voice, raised, known, part)? {
+        Outcome::Spent { bound } => search_woven(alloc, space, woven, voice, prices, bound, budget),
         outcome => Ok(outcome),
     }
 }
@@ -147,9 +170,12 @@ fn search_most(
     space: &SpeciesSpace<'_>,
     plain: &Charges,
     bids: &mut Bids,
+    known: u64,
     budget: u32,
 ) -> Result<Outcome, Memory>
     requires valid { IsValid space.now.exercise }
+    requires known { BoundsLeaves (live_at space.now.exercise space.now.sheet)
+        (columns_in space.now.exercise) known }
     requires fair { AreFairCharges plain.now space.now.sheet }
     requires small { AreSmallCharges MOST_CHARGE plain.now }
     requires scale { plain.now.scale ≡ SCALE }
@@ -163,6 +189,7 @@ fn search_most(
     ensures bound { IfOk result
         (λ outcome. IfSpent outcome (BoundsLeaves (live_at space.now.exercise space.now.sheet)
         (columns_in space.now.exercise))) }
+    ensures kept { IfOk result (λ outcome. IfSpent outcome (λ least. known ≤ least)) }
     ensures over { IfOk result (λ outcome. IsSpent outcome
         → IsOverBudget (live_at space.now.exercise space.now.sheet) (columns_in space.now.exercise)
         budget) }
@@ -170,17 +197,26 @@ fn search_most(
         (columns_in space.now.exercise)) }
 {
     let most = [Keeps::all(), Keeps::runs_alone(), Keeps::turns_alone()];
-    let Some(woven) = weave_first(alloc, space, &most, plain)? else {
-        return search_unpriced(alloc, space, budget);
+    let Some(woven) = weave_first(alloc, space, &most, plain, room_for(budget))? else {
+        return search_unpriced(alloc, space, known, budget);
     };
-    woven.seek_on(alloc, plain, bids)?;
+    woven.seek_on(alloc, plain, bids, budget)?;
     let prices = bids.prices(alloc)?;
     let part = budget.min(MOST_BUDGET);
-    match search_woven(alloc, space, &woven, plain.voice, &prices, part)? {
-        Outcome::Spent { .. } => {
-            woven.raise(alloc, plain, bids)?;
+    match search_woven(alloc, space, &woven, plain.voice, &prices, known, part)? {
+        Outcome::Spent { bound } => {
+            woven.raise(alloc, plain, bids, budget)?;
             let raised = bids.prices(alloc)?;
-            search_raised(alloc, space, &woven, plain.voice, &raised, &prices, budget)
+            search_raised(
+                alloc,
+                space,
+                &woven,
+                plain.voice,
+                &raised,
+                &prices,
+                bound,
+                budget,
+            )
         }
         outcome => Ok(outcome),
     }
@@ -193,10 +229,13 @@ fn search_after(
     tried: Outcome,
     plain: &Charges,
     bids: &mut Bids,
+    known: u64,
     budget: u32,
 ) -> Result<Outcome, Memory>
     requires valid { IsValid space.now.exercise }
-    requires tried { IsTry space.now.exercise space.now.sheet tried }
+    requires known { BoundsLeaves (live_at space.now.exercise space.now.sheet)
+        (columns_in space.now.exercise) known }
+    requires tried { IsTry space.now.exercise space.now.sheet known tried }
     requires fair { AreFairCharges plain.now space.now.sheet }
     requires small { AreSmallCharges MOST_CHARGE plain.now }
     requires scale { plain.now.scale ≡ SCALE }
@@ -210,6 +249,7 @@ fn search_after(
     ensures bound { IfOk result
         (λ outcome. IfSpent outcome (BoundsLeaves (live_at space.now.exercise space.now.sheet)
         (columns_in space.now.exercise))) }
+    ensures kept { IfOk result (λ outcome. IfSpent outcome (λ least. known ≤ least)) }
     ensures over { IfOk result (λ outcome. IsSpent outcome
         → IsOverBudget (live_at space.now.exercise space.now.sheet) (columns_in space.now.exercise)
         budget) }
@@ -217,15 +257,22 @@ fn search_after(
         (columns_in space.now.exercise)) }
 {
     match tried {
-        Outcome::Spent { .. } => search_most(alloc, space, plain, bids, budget),
+        Outcome::Spent { bound } => search_most(alloc, space, plain, bids, bound, budget),
         outcome => Ok(outcome),
     }
 }
 
 /// The first leaf of least value, by floors that keep least, and then by those that keep most.
 /// Where no web can be made the space's own floors have the whole budget at once.
-fn search_by_prices(alloc: Global, space: &SpeciesSpace<'_>, budget: u32) -> Result<Outcome, Memory>
-    requires { IsValid space.now.exercise }
+fn search_by_prices(
+    alloc: Global,
+    space: &SpeciesSpace<'_>,
+    known: u64,
+    budget: u32,
+) -> Result<Outcome, Memory>
+    requires valid { IsValid space.now.exercise }
+    requires known { BoundsLeaves (live_at space.now.exercise space.now.sheet)
+        (columns_in space.now.exercise) known }
     ensures found { IfOk result
         (λ outcome. IfFound outcome (IsFirstLeast (live_at space.now.exercise space.now.sheet)
         (columns_in space.now.exercise))) }
@@ -235,6 +282,7 @@ fn search_by_prices(alloc: Global, space: &SpeciesSpace<'_>, budget: u32) -> Res
     ensures bound { IfOk result
         (λ outcome. IfSpent outcome (BoundsLeaves (live_at space.now.exercise space.now.sheet)
         (columns_in space.now.exercise))) }
+    ensures kept { IfOk result (λ outcome. IfSpent outcome (λ least. known ≤ least)) }
     ensures over { IfOk result (λ outcome. IsSpent outcome
         → IsOverBudget (live_at space.now.exercise space.now.sheet) (columns_in space.now.exercise)
         budget) }
@@ -243,9 +291,9 @@ fn search_by_prices(alloc: Global, space: &SpeciesSpace<'_>, budget: u32) -> Res
 {
     let plain = plain_charges(alloc, space)?;
     let mut bids = Bids::new(alloc, space.sheet(), &plain)?;
-    match search_least(alloc, space, &plain, &mut bids, budget)? {
-        Some(tried) => search_after(alloc, space, tried, &plain, &mut bids, budget),
-        None => search_unpriced(alloc, space, budget),
+    match search_least(alloc, space, &plain, &mut bids, known, budget)? {
+        Some(tried) => search_after(alloc, space, tried, &plain, &mut bids, known, budget),
+        None => search_unpriced(alloc, space, known, budget),
     }
 }
 
@@ -272,7 +320,7 @@ pub fn search_best(alloc: Global, space: &SpeciesSpace<'_>, budget: u32) -> Resu
         (columns_in space.now.exercise)) }
 {
     match search_front(alloc, space, budget.min(FIRST_BUDGET))? {
-        Outcome::Spent { .. } => search_by_prices(alloc, space, budget),
+        Outcome::Spent { bound } => search_by_prices(alloc, space, bound, budget),
         outcome => Ok(outcome),
     }
 }

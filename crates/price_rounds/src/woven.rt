@@ -5,7 +5,7 @@ ghost use Rattle.priced_floors.specs.Charges.{AreFairCharges, AreSmallCharges};
 ghost use Rattle.priced_floors.specs.declared.charges.TheConstants.{CASES, MOST_CHARGE, SCALE};
 ghost use Rattle.price_rounds.specs.Woven.{IsWoven};
 
-use crate::rounds::Bids;
+use crate::rounds::{Bids, MORE_ROUNDS, ROUNDS};
 use crate::ways::{Ways, ways_of};
 use fux_pitch::Memory;
 use open_ends::Keeps;
@@ -22,12 +22,14 @@ pub struct Woven {
     pub ways: Option<Ways>,
 }
 
-/// The web of the settings of a space's exercise where so much is kept, unless it is too big.
+/// The web of the settings of a space's exercise where so much is kept, unless it is too big or has
+/// more edges than there is room for.
 pub fn weave(
     alloc: Global,
     space: &SpeciesSpace<'_>,
     keeps: Keeps,
     plain: &Charges,
+    room: usize,
 ) -> Result<Option<Woven>, Memory>
     requires fair { AreFairCharges plain.now space.now.sheet }
     requires small { AreSmallCharges MOST_CHARGE plain.now }
@@ -37,7 +39,7 @@ pub fn weave(
         IsWoven space.now.exercise space.now.sheet woven.keeps woven.web)) }
 {
     let priced = PricedSpace::new(alloc, space, keeps, plain)?;
-    let Some(web) = web_of(alloc, &priced)? else {
+    let Some(web) = web_of(alloc, &priced, room)? else {
         return Ok(None);
     };
     let ways = ways_of(alloc, space, &web, plain.voice)?;
@@ -51,6 +53,7 @@ pub fn weave_first(
     space: &SpeciesSpace<'_>,
     choices: &[Keeps],
     plain: &Charges,
+    room: usize,
 ) -> Result<Option<Woven>, Memory>
     requires fair { AreFairCharges plain.now space.now.sheet }
     requires small { AreSmallCharges MOST_CHARGE plain.now }
@@ -60,37 +63,71 @@ pub fn weave_first(
         IsWoven space.now.exercise space.now.sheet woven.keeps woven.web)) }
 {
     for keeps in choices {
-        if let Some(woven) = weave(alloc, space, *keeps, plain)? {
+        if let Some(woven) = weave(alloc, space, *keeps, plain, room)? {
             if woven.ways.is_some() {
                 return Ok(Some(woven));
             }
         }
     }
-    weave(alloc, space, Keeps::least(), plain)
+    weave(alloc, space, Keeps::least(), plain, room)
+}
+
+/// How many steps all rounds over a web may work whatever the budget is, and how many more for each
+/// prefix that may be opened.
+const STEPS: usize = 8_000_000;
+
+const STEPS_OF_A_PREFIX: usize = 450;
+
+/// How many rounds there are at most over a web with these ways, of so many.
+fn rounds_for(ways: &Ways, budget: u32, most: usize) -> usize {
+    let steps = STEPS + STEPS_OF_A_PREFIX * budget as usize;
+    most.min(steps / ways.steps.len().max(1))
 }
 
 impl Woven {
-    /// Seeks prices by the ways through the web, unless there are too many.
-    pub fn seek(&self, alloc: Global, charges: &Charges, bids: &mut Bids) -> Result<(), Memory> {
+    /// Seeks prices by the ways through the web, unless there are too many, in as many rounds as
+    /// the budget allows.
+    pub fn seek(
+        &self,
+        alloc: Global,
+        charges: &Charges,
+        bids: &mut Bids,
+        budget: u32,
+    ) -> Result<(), Memory> {
         match &self.ways {
-            Some(ways) => bids.seek(alloc, ways, charges),
+            Some(ways) => bids.seek(alloc, ways, charges, rounds_for(ways, budget, ROUNDS)),
             None => Ok(()),
         }
     }
 
     /// Seeks them from those on that were found by a smaller web.
-    pub fn seek_on(&self, alloc: Global, charges: &Charges, bids: &mut Bids) -> Result<(), Memory> {
+    pub fn seek_on(
+        &self,
+        alloc: Global,
+        charges: &Charges,
+        bids: &mut Bids,
+        budget: u32,
+    ) -> Result<(), Memory> {
+        bids.begin_again();
         match &self.ways {
-            Some(ways) => bids.seek_on(alloc, ways, charges),
+            Some(ways) => bids.seek(alloc, ways, charges, rounds_for(ways, budget, MORE_ROUNDS)),
             None => Ok(()),
         }
     }
 
-    /// Raises them for the later part of the exercise.
-    pub fn raise(&self, alloc: Global, charges: &Charges, bids: &mut Bids) -> Result<(), Memory> {
+    /// Raises them for the later part of the exercise, where the budget allows all rounds.
+    pub fn raise(
+        &self,
+        alloc: Global,
+        charges: &Charges,
+        bids: &mut Bids,
+        budget: u32,
+    ) -> Result<(), Memory> {
         match &self.ways {
-            Some(ways) => bids.raise(alloc, ways, charges),
-            None => Ok(()),
+            Some(ways) if rounds_for(ways, budget, ROUNDS) == ROUNDS => {
+                bids.raise(alloc, ways, charges)
+            }
+            _ => Ok(()),
         }
     }
 }

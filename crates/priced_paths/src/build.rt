@@ -76,13 +76,15 @@ fn add_edges<P: Pricing>(
     at: usize,
     depth: usize,
     kept: P::Kept,
+    most: usize,
 ) -> Result<bool, Memory>
     requires above { depth < P.Tree.height (P.tree pricing.now) }
     requires short { depth < 192 }
 {
     let labels = pricing.labels(depth);
     let first = weaver.web.edges.len();
-    if labels > MOST_EDGES || first > MOST_EDGES - labels {
+    let most = most.min(MOST_EDGES);
+    if labels > most || first > most - labels {
         return Ok(false);
     }
     if let Some(spot) = weaver.web.spots.get_mut(at) {
@@ -105,8 +107,13 @@ fn add_edges<P: Pricing>(
     Ok(true)
 }
 
-/// A web of what is kept from the start on, each depth after the one before, unless it is too big.
-pub fn weave<P: Pricing>(alloc: Global, pricing: &P) -> Result<Option<Web<P::Kept>>, Memory> {
+/// A web of what is kept from the start on, each depth after the one before, unless it is too big
+/// or would have more edges than these.
+pub fn weave<P: Pricing>(
+    alloc: Global,
+    pricing: &P,
+    most: usize,
+) -> Result<Option<Web<P::Kept>>, Memory> {
     let mut weaver = Weaver {
         web: Web {
             spots: Vec::new(alloc),
@@ -131,7 +138,7 @@ pub fn weave<P: Pricing>(alloc: Global, pricing: &P) -> Result<Option<Web<P::Kep
             first: _,
             labels: _,
         } = *spot;
-        if depth < height && !add_edges(pricing, &mut weaver, at, depth, kept)? {
+        if depth < height && !add_edges(pricing, &mut weaver, at, depth, kept, most)? {
             return Ok(None);
         }
     }

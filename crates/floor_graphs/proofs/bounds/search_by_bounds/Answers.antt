@@ -8,6 +8,7 @@ returns-in_default g c =
       found = c.in_ok-answer.ensures.found;
       nothing = c.in_ok-answer.ensures.nothing;
       bound = if_unspent _ _ unspent;
+      kept = if_unspent _ _ unspent;
       over = λ spent. absurd (unspent spent);
       agrees = agrees_from_facts _ _ _ c.in_ok-answer.ensures.found c.in_ok-answer.ensures.nothing;
     }
@@ -19,6 +20,7 @@ returns-in_default-2 g c =
       found = c.in_ok-answer-2.ensures.found;
       nothing = c.in_ok-answer-2.ensures.nothing;
       bound = if_unspent _ _ unspent;
+      kept = if_unspent _ _ unspent;
       over = λ spent. absurd (unspent spent);
       agrees = agrees_from_facts _ _ _ c.in_ok-answer-2.ensures.found c.in_ok-answer-2.ensures.nothing;
     }
@@ -30,6 +32,7 @@ returns-in_default-3 g c =
       found = c.in_ok-answer-3.ensures.found;
       nothing = c.in_ok-answer-3.ensures.nothing;
       bound = if_unspent _ _ unspent;
+      kept = if_unspent _ _ unspent;
       over = λ spent. absurd (unspent spent);
       agrees = agrees_from_facts _ _ _ c.in_ok-answer-3.ensures.found c.in_ok-answer-3.ensures.nothing;
     }

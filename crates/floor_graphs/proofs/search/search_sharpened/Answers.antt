@@ -1,6 +1,6 @@
 use Rattle.std.specs.Prelude.{Result, Ok, Err, IfOk}
 use Rattle.tree_search.specs.declared.outcome.Outcome.{Outcome}
-use Rattle.floor_graphs.proofs.SameAnswers.{found_from_sharpened, nothing_from_sharpened, spent_from_sharpened, agrees_from_sharpened, spent_over_from_sharpened}
+use Rattle.floor_graphs.proofs.SameAnswers.{found_from_sharpened, nothing_from_sharpened, spent_from_sharpened, agrees_from_sharpened, bounds_to_sharpened, spent_over_from_sharpened}
 use Rattle.floor_graphs.proofs.search.search_sharpened.Goals as goal
 
 -- what follows of an outcome follows where there is one
@@ -15,6 +15,11 @@ on_ok₂ : {E : Type 0} (P R Q : Outcome → Type 0) → ((outcome : Outcome) �
 on_ok₂ P R Q f (Ok outcome) h k = f outcome h k
 on_ok₂ P R Q f (Err e) h k = h
 
+pub search_by_bounds-requires : goal.search_by_bounds-requires
+search_by_bounds-requires g c =
+    let grows = g.met.G.Tree.Space.floors_grow (g.G.Guide.tree c.args.guide.now) in
+    bounds_to_sharpened _ _ _ _ grows (g.met.G.Guide.floors c.args.guide.now) c.args.known c.requires
+
 pub returns : goal.returns
 returns g c =
     let grows = g.met.G.Tree.Space.floors_grow (g.G.Guide.tree c.args.guide.now) in
@@ -26,6 +31,7 @@ returns g c =
           c.search_by_bounds.ensures.nothing;
       bound = on_ok _ _ (spent_from_sharpened _ _ _ _ grows floors) c.search_by_bounds.result
           c.search_by_bounds.ensures.bound;
+      kept = c.search_by_bounds.ensures.kept;
       sharp = c.search_by_bounds.ensures.over;
       over = on_ok _ _ (spent_over_from_sharpened _ _ _ _ grows floors c.args.budget) c.search_by_bounds.result
           c.search_by_bounds.ensures.over;

@@ -8,6 +8,7 @@ returns-in_default c =
       found = first.found;
       nothing = first.nothing;
       bound = first.bound;
+      kept = first.kept;
       over = λ spent. absurd (not_spent _ c.in_default.not-Spent spent);
       agrees = first.agrees;
     }

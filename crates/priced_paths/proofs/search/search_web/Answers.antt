@@ -6,7 +6,7 @@ use Rattle.priced_paths.proofs.Mapped.{priced_floors}
 use Rattle.priced_paths.proofs.search.search_web.Goals as goal
 
 pub case_numbers-requires : goal.case_numbers-requires
-case_numbers-requires g c = sound_from_web c.args.web.now c.requires
+case_numbers-requires g c = sound_from_web c.args.web.now c.requires.web
 
 pub invariant_of-guide : goal.invariant_of-guide
 invariant_of-guide g c =
@@ -17,11 +17,11 @@ invariant_of-guide g c =
     (case_of (g.P.Pricing.toll_at pricing) (g.P.Pricing.reaches_at pricing) (g.P.Pricing.rate_of pricing) k)
     (numbers_of c.deref.result.now k) = λ k within. rw c.deref.ensures.value (found.numbers k within) in
     record {
-      sound = sound_from_web c.args.web.now c.requires;
+      sound = sound_from_web c.args.web.now c.requires.web;
       short = found.short;
       few = found.few;
       each = ap length c.deref.ensures.value ∙ found.each;
       small = λ k within. (are k within).small;
       whole = λ k within. (are k within).whole;
-      floors = priced_floors (g.met.P.Pricing.priced pricing) c.args.web.now c.requires c.deref.result.now are;
+      floors = priced_floors (g.met.P.Pricing.priced pricing) c.args.web.now c.requires.web c.deref.result.now are;
     }
