@@ -18,6 +18,7 @@ form_is_simple verb.Cantus = refl
 form_is_simple verb.Print = refl
 form_is_simple verb.ToSmf = refl
 form_is_simple verb.FromSmf = refl
+form_is_simple verb.JoinSmf = refl
 form_is_simple verb.Drill = refl
 form_is_simple verb.Class = refl
 form_is_simple verb.Canon = refl

@@ -18,7 +18,7 @@ use Rattle.command_words.specs.declared.command.Job.TheVariants.{Compose, Best, 
 use Rattle.command_words.specs.declared.command.MixedJob.{MixedJob}
 use Rattle.command_words.specs.declared.command.MixedJob.TheVariants as mixed
 use Rattle.command_words.specs.declared.command.Making.{Making}
-use Rattle.command_words.specs.declared.command.Making.TheVariants.{OnExercise, OnMixed, Check, FromSmf, Drill, MarkAnswer, Class, Canon, NewCantus, CheckCantus, Explain}
+use Rattle.command_words.specs.declared.command.Making.TheVariants.{OnExercise, OnMixed, Check, FromSmf, JoinSmf, Drill, MarkAnswer, Class, Canon, NewCantus, CheckCantus, Explain}
 use Rattle.command_words.specs.declared.command.Subject.{Subject}
 use Rattle.command_words.specs.declared.command.Subject.TheVariants as subject
 use Rattle.command_words.specs.declared.command.Search.{Search}
@@ -40,6 +40,7 @@ pub data Task : Type 0 where
   check : (name certificate : Text) (sheet : Option Text) → Task
   explain : (name : Text) (subject : Subject) → Task
   fromsmf : (name : Text) (head : Head) → Task
+  join_smf : (lesson name : Text) (top_first : Bool) → Task
   drill : (number : ℕ) (by_sharper : Bool) → Task
   mark_answer : (name lesson : Text) → Task
   class_report : (list : Text) → Task
@@ -60,6 +61,7 @@ making_task (OnMixed name sheet named job) = on_mixed name.now (sheet_named shee
 making_task (Check name certificate sheet) = check name.now certificate.now (sheet_named sheet)
 making_task (Explain name subject) = explain name.now subject
 making_task (FromSmf name head) = fromsmf name.now head
+making_task (JoinSmf lesson name top_first) = join_smf lesson.now name.now top_first
 making_task (Drill number by_sharper) = drill number by_sharper
 making_task (MarkAnswer name lesson) = mark_answer name.now lesson.now
 making_task (Class list) = class_report list.now
@@ -223,6 +225,12 @@ from_smf_asked rows = do
   name ← first_of (codes "FILE") rows
   head ← head_in rows
   Some (fromsmf name head)
+
+abbrev pub join_smf_asked : List Row → Option Task
+join_smf_asked rows = do
+  lesson ← first_of (codes "LESSON") rows
+  name ← first_of (codes "FILE") rows
+  Some (join_smf lesson name (is_set (codes "top-first") rows))
 
 abbrev pub drill_asked : List Row → Option Task
 drill_asked rows =
@@ -408,6 +416,7 @@ asks verb.Cantus = cantus_asked
 asks verb.Print = print_asked
 asks verb.ToSmf = job_asked ToSmf
 asks verb.FromSmf = from_smf_asked
+asks verb.JoinSmf = join_smf_asked
 asks verb.Drill = drill_asked
 asks verb.Class = class_asked
 asks verb.Canon = canon_asked

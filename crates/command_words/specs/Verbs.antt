@@ -14,7 +14,7 @@ use Rattle.command_words.specs.declared.verbs.Verb.TheVariants as verb
 abbrev pub verbs : List Verb
 verbs =
     verb.Compose ∷ verb.Best ∷ verb.Certify ∷ verb.Check ∷ verb.Mark ∷ verb.Explain ∷ verb.Cantus ∷ verb.Print ∷ verb.ToSmf
-    ∷ verb.FromSmf ∷ verb.Drill ∷ verb.Class ∷ verb.Canon ∷ verb.Mixed ∷ verb.MarkMixed ∷ verb.Weigh ∷ verb.ToXml
+    ∷ verb.FromSmf ∷ verb.JoinSmf ∷ verb.Drill ∷ verb.Class ∷ verb.Canon ∷ verb.Mixed ∷ verb.MarkMixed ∷ verb.Weigh ∷ verb.ToXml
     ∷ verb.MarkXml ∷ verb.Picture ∷ verb.MarkPicture ∷ verb.NewCantus ∷ verb.CertCantus
     ∷ verb.CheckCantus ∷ []
 
@@ -30,6 +30,7 @@ row_of verb.Cantus = (codes "cantus", part.Exercise ∷ part.Sheet ∷ [])
 row_of verb.Print = (codes "print", part.Exercise ∷ part.Wrap ∷ [])
 row_of verb.ToSmf = (codes "tosmf", part.Exercise ∷ [])
 row_of verb.FromSmf = (codes "fromsmf", part.File ∷ part.Mode ∷ part.Species ∷ part.Voice ∷ part.Cantus ∷ part.TopFirst ∷ [])
+row_of verb.JoinSmf = (codes "joinsmf", part.Lessons ∷ part.File ∷ part.TopFirst ∷ [])
 row_of verb.Drill = (codes "drill", part.Number ∷ part.BySharper ∷ [])
 row_of verb.Class = (codes "class", part.List ∷ part.Lesson ∷ part.KeepGoing ∷ [])
 row_of verb.Canon = (codes "canon", part.File ∷ part.Sheet ∷ part.Budget ∷ part.Nth ∷ [])
@@ -47,6 +48,7 @@ row_of verb.CheckCantus = (codes "checkcantus", part.InMode ∷ part.Bars ∷ pa
 -- the name of a part, which the words have behind two hyphens where it is an option or a flag
 abbrev pub name_of : Part → Text
 name_of part.Exercise = codes "EX"
+name_of part.Lessons = codes "LESSON"
 name_of part.File = codes "FILE"
 name_of part.Certificate = codes "CERT"
 name_of part.List = codes "LIST"
@@ -77,6 +79,7 @@ name_of part.BySharper = codes "best"
 -- how a part is given
 abbrev pub kind_of : Part → Kind
 kind_of part.Exercise = kind.Word
+kind_of part.Lessons = kind.Word
 kind_of part.File = kind.Word
 kind_of part.Certificate = kind.Word
 kind_of part.List = kind.Word

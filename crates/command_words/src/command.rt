@@ -134,6 +134,13 @@ pub enum Making<'a> {
         name: &'a str,
         head: Head,
     },
+    /// The note text of the lesson in a file with the setting that a MIDI file is, the first track
+    /// of which is the highest voice where `top_first`, unless the cantus says otherwise.
+    JoinSmf {
+        lesson: &'a str,
+        name: &'a str,
+        top_first: bool,
+    },
     /// The exercise of a number with its best setting, by the floors of `best` where `by_sharper`.
     Drill {
         number: u32,

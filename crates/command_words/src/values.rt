@@ -5,7 +5,7 @@ ghost use Rattle.clap.specs.Words.{first_of, found_of, rows_of};
 ghost use Rattle.fux_text.specs.Names.{mode_named};
 ghost use Rattle.smf_score.specs.Heads.{IsHead};
 ghost use Rattle.text_lines.specs.Numbers.{number_within};
-ghost use Rattle.command_words.specs.Commands.{AreNamed, HasHead, HasMidiHead, IsNamedSubject, IsWanted, against_in, asks, before_in, before_nth, best_asked, budget_in, canon_asked, cantus_asked, cantus_of, certify_asked, certify_cantus_asked, check_asked, check_cantus_asked, class_asked, classing_of, compose_asked, composing, drill_asked, either_asked, either_by, explain_asked, form_in, from_smf_asked, head_in, is_item, is_set, job_asked, making_task, mark_asked, mark_mixed_asked, marking_of, mixed_asked, mixed_by, named_in, new_cantus_asked, number_at, picture_asked, print_asked, said_of, search_in, subject_in, task_of, wanted_in, weigh_asked, weighing_with, wrap_in};
+ghost use Rattle.command_words.specs.Commands.{AreNamed, HasHead, HasMidiHead, IsNamedSubject, IsWanted, against_in, asks, before_in, before_nth, best_asked, budget_in, canon_asked, cantus_asked, cantus_of, certify_asked, certify_cantus_asked, check_asked, check_cantus_asked, class_asked, classing_of, compose_asked, composing, drill_asked, either_asked, either_by, explain_asked, form_in, from_smf_asked, head_in, is_item, is_set, job_asked, join_smf_asked, making_task, mark_asked, mark_mixed_asked, marking_of, mixed_asked, mixed_by, named_in, new_cantus_asked, number_at, picture_asked, print_asked, said_of, search_in, subject_in, task_of, wanted_in, weigh_asked, weighing_with, wrap_in};
 
 use crate::command::{Command, Job, Making, MixedJob, Named, Search, Subject, Wanted};
 use crate::verbs::Verb;
@@ -305,6 +305,21 @@ fn from_smf_asked<'a>(matches: &ArgMatches<'a>) -> Option<Command<'a>>
     let name = value(matches, "FILE")?;
     let head = head_of(matches)?;
     Some(Command::Make(Making::FromSmf { name, head }))
+}
+
+/// `joinsmf`, on a lesson and a MIDI file.
+fn join_smf_asked<'a>(matches: &ArgMatches<'a>) -> Option<Command<'a>>
+    ensures asked { option_map task_of result ≡ join_smf_asked (rows_of (found_of matches.now)) }
+    ensures head { IfSome result HasHead }
+{
+    let lesson = value(matches, "LESSON")?;
+    let name = value(matches, "FILE")?;
+    let top_first = is_set(matches, "top-first");
+    Some(Command::Make(Making::JoinSmf {
+        lesson,
+        name,
+        top_first,
+    }))
 }
 
 /// `drill`, of a number.
@@ -664,6 +679,7 @@ pub fn asked_of<'a>(verb: Verb, matches: &ArgMatches<'a>) -> Option<Command<'a>>
         Verb::Print => print_asked(matches),
         Verb::ToSmf => job_asked(matches, Job::ToSmf),
         Verb::FromSmf => from_smf_asked(matches),
+        Verb::JoinSmf => join_smf_asked(matches),
         Verb::Drill => drill_asked(matches),
         Verb::Class => class_asked(matches),
         Verb::Canon => canon_asked(matches),

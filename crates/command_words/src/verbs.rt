@@ -27,6 +27,8 @@ pub enum Verb {
     ToSmf,
     /// The note text of a MIDI file.
     FromSmf,
+    /// The note text of a MIDI file as an answer to a lesson.
+    JoinSmf,
     /// The exercise of a number with its best setting.
     Drill,
     /// The report of the exercises in the files of a list.
@@ -56,7 +58,7 @@ pub enum Verb {
 }
 
 /// All commands.
-const VERBS: [Verb; 23] = [
+const VERBS: [Verb; 24] = [
     Verb::Compose,
     Verb::Best,
     Verb::Certify,
@@ -67,6 +69,7 @@ const VERBS: [Verb; 23] = [
     Verb::Print,
     Verb::ToSmf,
     Verb::FromSmf,
+    Verb::JoinSmf,
     Verb::Drill,
     Verb::Class,
     Verb::Canon,
@@ -87,6 +90,8 @@ const VERBS: [Verb; 23] = [
 pub enum Part {
     /// The file of an exercise.
     Exercise,
+    /// The file of a lesson that another file answers.
+    Lessons,
     /// A file of another kind.
     File,
     /// The file of a certificate.
@@ -187,6 +192,7 @@ impl Verb {
                     Part::TopFirst,
                 ],
             ),
+            Verb::JoinSmf => ("joinsmf", &[Part::Lessons, Part::File, Part::TopFirst]),
             Verb::Drill => ("drill", &[Part::Number, Part::BySharper]),
             Verb::Class => ("class", &[Part::List, Part::Lesson, Part::KeepGoing]),
             Verb::Canon => ("canon", &[Part::File, Part::Sheet, Part::Budget, Part::Nth]),
@@ -254,6 +260,7 @@ impl Part {
     {
         match self {
             Part::Exercise => "EX",
+            Part::Lessons => "LESSON",
             Part::File => "FILE",
             Part::Certificate => "CERT",
             Part::List => "LIST",
@@ -287,6 +294,7 @@ impl Part {
     {
         match self {
             Part::Exercise
+            | Part::Lessons
             | Part::File
             | Part::Certificate
             | Part::List

@@ -124,6 +124,7 @@ width_of ex (refusal.Canon line) h = absurd h
 width_of ex refusal.LongCertificate h = absurd h
 width_of ex (refusal.Sheet fault) h = absurd h
 width_of ex (refusal.Midi fault) h = absurd h
+width_of ex (refusal.Join fault) h = absurd h
 
 pub text_of : (bytes : List ℕ) (said : Refusal) → RefusesText bytes said → TextOf bytes said
 text_of bytes (refusal.Text kind line column) h = (kind, line, column, refl, h)
@@ -136,6 +137,7 @@ text_of bytes (refusal.Canon line) h = absurd h
 text_of bytes refusal.LongCertificate h = absurd h
 text_of bytes (refusal.Sheet fault) h = absurd h
 text_of bytes (refusal.Midi fault) h = absurd h
+text_of bytes (refusal.Join fault) h = absurd h
 
 pub sheet_of : (sheets : List (List ℕ)) (said : Refusal) → RefusesSheet sheets said → SheetOf sheets said
 sheet_of sheets (refusal.Sheet fault) h = (fault, refl, h)
@@ -148,6 +150,7 @@ sheet_of sheets (refusal.List line) h = absurd h
 sheet_of sheets (refusal.Canon line) h = absurd h
 sheet_of sheets refusal.LongCertificate h = absurd h
 sheet_of sheets (refusal.Midi fault) h = absurd h
+sheet_of sheets (refusal.Join fault) h = absurd h
 
 pub not_wide : (ex : Exercise) (place : Place) (count : ℕ) → IsNarrow ex → IsTooWide ex place count → ⊥
 not_wide ex place count narrow wide =

@@ -97,6 +97,7 @@ module _ (plan : CantusPlan) (budget : ℕ) where
   of_best cantus penalty best fewest most below (Err (refusal.With voice)) made = absurd made
   of_best cantus penalty best fewest most below (Err (refusal.Sheet fault)) made = absurd made
   of_best cantus penalty best fewest most below (Err (refusal.Midi fault)) made = absurd made
+  of_best cantus penalty best fewest most below (Err (refusal.Join fault)) made = absurd made
 
   of_none : IsNothingWithin plan budget → (work : Work) → CertifiesSaid plan None Unfavorable work
       → CertifiesPlan plan budget work
@@ -124,6 +125,7 @@ module _ (plan : CantusPlan) (budget : ℕ) where
   of_none none (Err (refusal.With voice)) made = absurd made
   of_none none (Err (refusal.Sheet fault)) made = absurd made
   of_none none (Err (refusal.Midi fault)) made = absurd made
+  of_none none (Err (refusal.Join fault)) made = absurd made
 
   of_bound : (bound : ℕ) → IsLeastOver plan budget bound → (work : Work) → IsBoundText bound work
       → CertifiesPlan plan budget work

@@ -153,6 +153,7 @@ module _ (budget : ℕ) (form : Form) (sheet : Sheet) (ex : Exercise) (valid : I
   of_best score penalty best below (Err (refusal.With voice)) made = absurd made
   of_best score penalty best below (Err (refusal.Sheet fault)) made = absurd made
   of_best score penalty best below (Err (refusal.Midi fault)) made = absurd made
+  of_best score penalty best below (Err (refusal.Join fault)) made = absurd made
 
   pub of_none : IsNothingWithin ex sheet budget → (work : Work)
       → CertifiesHead ex sheet form Nothing Unfavorable work → Certifies budget form sheet ex work
@@ -186,6 +187,7 @@ module _ (budget : ℕ) (form : Form) (sheet : Sheet) (ex : Exercise) (valid : I
   of_none none (Err (refusal.With voice)) made = absurd made
   of_none none (Err (refusal.Sheet fault)) made = absurd made
   of_none none (Err (refusal.Midi fault)) made = absurd made
+  of_none none (Err (refusal.Join fault)) made = absurd made
 
   pub of_bound : (bound : ℕ) → IsLeastOver ex sheet budget bound → (work : Work) → IsBoundText bound work
       → Certifies budget form sheet ex work

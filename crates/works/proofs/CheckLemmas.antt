@@ -33,7 +33,7 @@ use Rattle.class_marker.specs.Markings.{IsContent}
 use Rattle.fux_text.proofs.ReadTexts.{texts-faultless}
 use Rattle.fux_text.specs.Texts.{IsTextOf}
 use Rattle.works.specs.Classes.{RefusesList}
-use Rattle.command_words.specs.Commands.{Task, certify, certify_cantus, check, check_cantus, class_report, drill, explain, find_canon, find_cantus, fromsmf, mark_answer, on_exercise, on_mixed, whole_class}
+use Rattle.command_words.specs.Commands.{Task, certify, certify_cantus, check, check_cantus, class_report, drill, explain, find_canon, find_cantus, fromsmf, join_smf, mark_answer, on_exercise, on_mixed, whole_class}
 use Rattle.works.specs.TaskFiles.{as_list, limit_in, name_in, names_in, names_listed, names_within}
 use Rattle.works.specs.Complaints.{name_text}
 use Rattle.works.specs.Endings.{IsCut, IsMade, IsRefused, IsUnread, IsWritten, SaysWithin, work_output}
@@ -138,6 +138,7 @@ output_is_there (on_mixed ex sheet named job) files name bytes output made one m
 output_is_there (certify ex sheet budget form) files name bytes output made one missing = omega (arith, one.1)
 output_is_there (explain file subject) files name bytes output made one missing = omega (arith, one.1)
 output_is_there (fromsmf file head) files name bytes output made one missing = omega (arith, one.1)
+output_is_there (join_smf lesson file top_first) files name bytes output made one missing = omega (arith, one.1)
 output_is_there (drill number by_sharper) files name bytes output made one missing = omega (arith, one.1)
 output_is_there (mark_answer file lesson) files name bytes output made one missing = omega (arith, one.1)
 output_is_there (whole_class list lesson) files name bytes output made one missing = omega (arith, one.1)
@@ -188,6 +189,7 @@ not_refused_width ex (refusal.With voice) wide narrow = wide
 not_refused_width ex refusal.LongCertificate wide narrow = wide
 not_refused_width ex (refusal.Sheet fault) wide narrow = wide
 not_refused_width ex (refusal.Midi fault) wide narrow = wide
+not_refused_width ex (refusal.Join fault) wide narrow = wide
 
 not_refused_text : (bytes : List ℕ) (ex : Exercise) (refusal : Refusal) → IsTextOf bytes ex → RefusesText bytes refusal → ⊥
 not_refused_text bytes ex (refusal.Text kind line column) is refused = texts-faultless bytes ex kind line column is refused
@@ -200,6 +202,7 @@ not_refused_text bytes ex (refusal.With voice) is refused = refused
 not_refused_text bytes ex refusal.LongCertificate is refused = refused
 not_refused_text bytes ex (refusal.Sheet fault) is refused = refused
 not_refused_text bytes ex (refusal.Midi fault) is refused = refused
+not_refused_text bytes ex (refusal.Join fault) is refused = refused
 
 not_refused_sheet : (sheets : List (List ℕ)) (sheet : Sheet) (refusal : Refusal) → sheet_said sheets ≡ Ok sheet
     → RefusesSheet sheets refusal → ⊥
@@ -213,6 +216,7 @@ not_refused_sheet sheets sheet (refusal.Canon line) said refused = refused
 not_refused_sheet sheets sheet (refusal.With voice) said refused = refused
 not_refused_sheet sheets sheet refusal.LongCertificate said refused = refused
 not_refused_sheet sheets sheet (refusal.Midi fault) said refused = refused
+not_refused_sheet sheets sheet (refusal.Join fault) said refused = refused
 
 not_refused_list : (text : List ℕ) (names : List (List ℕ)) (refusal : Refusal) → listed_names text ≡ Ok names
     → RefusesList text refusal → ⊥
@@ -226,6 +230,7 @@ not_refused_list text names (refusal.With voice) listed refused = refused
 not_refused_list text names refusal.LongCertificate listed refused = refused
 not_refused_list text names (refusal.Sheet fault) listed refused = refused
 not_refused_list text names (refusal.Midi fault) listed refused = refused
+not_refused_list text names (refusal.Join fault) listed refused = refused
 
 check_not_refused : (files : Files) (certificate : List ℕ) (sheets : List (List ℕ)) (text : List ℕ) (refusal : Refusal)
     → ChecksText files certificate sheets text (Err refusal) → IsReadyText sheets text → ⊥
@@ -253,6 +258,7 @@ not_refused (on_mixed ex sheet named job) files bytes refusal made ready = ready
 not_refused (certify ex sheet budget form) files bytes refusal made ready = ready
 not_refused (explain file subject) files bytes refusal made ready = ready
 not_refused (fromsmf file head) files bytes refusal made ready = ready
+not_refused (join_smf lesson file top_first) files bytes refusal made ready = ready
 not_refused (drill number by_sharper) files bytes refusal made ready = ready
 not_refused (mark_answer file lesson) files bytes refusal made ready = ready
 not_refused (whole_class list lesson) files bytes refusal made ready = ready

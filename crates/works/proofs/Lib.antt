@@ -15,6 +15,7 @@ pub mod ClassLemmas
 pub mod Commented
 pub mod ContentLemmas
 pub mod ExplainLemmas
+pub mod JoinedLemmas
 pub mod LittleLemmas
 pub mod MakeLemmas
 pub mod MixedLemmas

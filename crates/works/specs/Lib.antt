@@ -14,6 +14,7 @@ pub mod Endings
 pub mod Explained
 pub mod Imitated
 pub mod Invented
+pub mod Joined
 pub mod Listed
 pub mod Little
 pub mod Marked

@@ -2,7 +2,7 @@
 use Rattle.std.specs.Prelude.{ℕ, List, [], ◌∷◌, Option, Some, None, Result, Ok, Err}
 use Rattle.clap.specs.Words.{Text}
 use Rattle.class_marker.specs.Lists.{listed_names}
-use Rattle.command_words.specs.Commands.{Task, on_exercise, on_mixed, certify, check, fromsmf, drill, mark_answer, class_report, whole_class, find_canon, find_cantus, certify_cantus, check_cantus, explain}
+use Rattle.command_words.specs.Commands.{Task, on_exercise, on_mixed, certify, check, fromsmf, join_smf, drill, mark_answer, class_report, whole_class, find_canon, find_cantus, certify_cantus, check_cantus, explain}
 
 -- the name that a line about a refused file tells, where it tells one
 abbrev pub name_in : Task → Text
@@ -12,6 +12,7 @@ name_in (certify name sheet budget form) = name
 name_in (check name certificate sheet) = name
 name_in (explain name subject) = name
 name_in (fromsmf name head) = name
+name_in (join_smf lesson name top_first) = name
 name_in (drill number by_sharper) = []
 name_in (mark_answer name lesson) = name
 name_in (class_report list) = list
@@ -34,6 +35,7 @@ names_in (certify name sheet budget form) = name ∷ as_list sheet
 names_in (check name certificate sheet) = name ∷ as_list sheet
 names_in (explain name subject) = name ∷ []
 names_in (fromsmf name head) = name ∷ []
+names_in (join_smf lesson name top_first) = lesson ∷ name ∷ []
 names_in (drill number by_sharper) = []
 names_in (mark_answer name lesson) = name ∷ lesson ∷ []
 names_in (class_report list) = list ∷ []
@@ -64,6 +66,7 @@ limit_in (certify name sheet budget form) = 65536
 limit_in (check name certificate sheet) = 65536
 limit_in (explain name subject) = 65536
 limit_in (fromsmf name head) = 1048576
+limit_in (join_smf lesson name top_first) = 1048576
 limit_in (drill number by_sharper) = 65536
 limit_in (mark_answer name lesson) = 65536
 limit_in (class_report list) = 65536

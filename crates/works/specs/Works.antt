@@ -25,13 +25,14 @@ use Rattle.works.specs.Certified.{Certifies}
 use Rattle.works.specs.Charged.{Weighs}
 use Rattle.works.specs.Checked.{AnswersWithin, Checks, IsUnreadable}
 use Rattle.works.specs.Classes.{IsClass, IsList, RefusesList}
-use Rattle.command_words.specs.Commands.{Task, on_exercise, on_mixed, certify, check, fromsmf, drill, mark_answer, class_report, whole_class, find_canon, find_cantus, certify_cantus, check_cantus, explain}
+use Rattle.command_words.specs.Commands.{Task, on_exercise, on_mixed, certify, check, fromsmf, join_smf, drill, mark_answer, class_report, whole_class, find_canon, find_cantus, certify_cantus, check_cantus, explain}
 use Rattle.works.specs.TaskFiles.{as_list, names_in}
 use Rattle.works.specs.Complaints.{name_text}
 use Rattle.works.specs.Composed.{Composes, ComposesSharply}
 use Rattle.works.specs.Drilled.{Drills}
 use Rattle.works.specs.Explained.{Explains}
 use Rattle.works.specs.Imitated.{MakesCanon}
+use Rattle.works.specs.Joined.{JoinsSmf}
 use Rattle.works.specs.Invented.{MakesCantus}
 use Rattle.works.specs.Marked.{Marks, CantusMarks}
 use Rattle.works.specs.MarkedCantus.{ChargesCantus}
@@ -141,6 +142,7 @@ Makes (certify name sheet budget form) files (text ∷ sheets) work = CertifiesT
 Makes (check name certificate sheet) files (text ∷ sheets) work = ChecksText files certificate sheets text work
 Makes (explain name subject) files (text ∷ []) work = Explains subject name text work
 Makes (fromsmf name head) files (file ∷ []) work = ReadsMidi head file work
+Makes (join_smf lesson name top_first) files (given ∷ file ∷ []) work = JoinsSmf top_first given file work
 Makes (drill number by_sharper) files [] work = Drills number by_sharper work
 Makes (mark_answer name lesson) files (text ∷ given ∷ []) work = MarksAnswer given text work
 Makes (class_report list) files (text ∷ []) work = ReportsClass files text work

@@ -17,6 +17,7 @@ mod explaining;
 mod gathering;
 mod imitating;
 mod inventing;
+mod joining;
 mod law;
 mod making;
 mod marking;

@@ -25,6 +25,7 @@ use crate::exercise::{LONGEST_TEXT, exercise_of};
 use crate::explaining::explain;
 use crate::imitating::canon;
 use crate::inventing::new_cantus;
+use crate::joining::join;
 use crate::marking::{cantus, cantus_charged, mark};
 use crate::mixing::on_mixed;
 use crate::numbering::compose_nth;
@@ -94,6 +95,11 @@ pub fn make<'a, F: Shelf, R: Threads + Sync>(
             let file = read_content(alloc, shelf, name, LONGEST_MIDI)?;
             said(alloc, name, from_smf(alloc, &file, &head))
         }
+        Making::JoinSmf {
+            lesson,
+            name,
+            top_first,
+        } => join(alloc, lesson, name, top_first, shelf),
         Making::Drill { number, by_sharper } => {
             said(alloc, "", drill(rt, alloc, number, by_sharper))
         }

@@ -8,6 +8,7 @@ use fux_grid::Place;
 use fux_pitch::{Label, Memory};
 use fux_text::TextKind;
 use penalty_sheet::SheetFault;
+use smf_answers::JoinFault;
 use smf_score::SmfFault;
 use std::alloc::Global;
 use std::fmt::Write;
@@ -58,6 +59,10 @@ pub enum Refusal {
     Midi {
         fault: SmfFault,
     },
+    /// The file is no MIDI file of an answer to the lesson: its first fault.
+    Join {
+        fault: JoinFault,
+    },
 }
 
 /// What is said of a refused file of this name, without the program's name before it.
@@ -89,6 +94,7 @@ fn put_refusal(text: &mut String, name: &str, refusal: &Refusal) -> Result<(), M
         Refusal::LongCertificate => Ok(text.push_str("certificate too long")?),
         Refusal::Sheet { fault } => Ok(write!(text, "sheet: {fault}")?),
         Refusal::Midi { fault } => Ok(write!(text, "midi: {fault}")?),
+        Refusal::Join { fault } => Ok(write!(text, "midi: {fault}")?),
     }
 }
 

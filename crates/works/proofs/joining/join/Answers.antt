@@ -1,0 +1,93 @@
+use Rattle.std.proofs.Common.{[], ◌∷◌, Some, Err, inl, refl, arith}
+use Rattle.std.proofs.lemmas.Result.{err_from_is_err_and}
+use Rattle.fux_port.specs.Counts.{Rose}
+use Rattle.fux_port.proofs.Rises.{rose_later}
+use Rattle.command_words.specs.Commands.{join_smf}
+use Rattle.works.specs.Endings.{IsMade}
+use Rattle.works.proofs.JoinedLemmas.{of_joining}
+use Rattle.works.specs.Blame.{IsUnserved}
+use Rattle.works.proofs.BlameLemmas.{result_blames_none, text_blames, whole_kept}
+use Rattle.works.proofs.MakeLemmas.{made_said, read_same, sheet_unread}
+use Rattle.works.proofs.joining.join.Goals as goal
+
+pub returns-in_err-file-clause-made : goal.returns-in_err-file-clause-made
+returns-in_err-file-clause-made g c =
+    let files = g.F.Shelf.files in
+    let faults = g.F.Shelf.faults in
+    let task = join_smf c.args.lesson.now c.args.name.now c.args.top_first in
+    let told = err_from_is_err_and c.from_residual-in_err-file.result c.from_residual-in_err-file.ensures.1 in
+    rw (told.1, told.2) (sheet_unread c.args.lesson.now (Some c.args.name.now)
+    (files c.args.shelf.now) (files c.read_content.new.shelf)
+    (Rose (faults c.args.shelf.now) (faults c.read_content-2.new.shelf))
+    (Rose (faults c.read_content.new.shelf) (faults c.read_content-2.new.shelf)) 1048576 c.in_ok-given.given _
+    (λ complaint. IsMade task (files c.args.shelf.now)
+    (Rose (faults c.args.shelf.now) (faults c.read_content-2.new.shelf)) (Err complaint))
+    (λ file is. inl is) tt
+    c.in_ok-given.ensures.reads c.in_ok-given.ensures.files
+    (rose_later _ _ _ c.in_ok-given.ensures.faults) c.in_err-file.ensures.reads)
+
+pub returns-clause-made : goal.returns-clause-made
+returns-clause-made g c =
+    let name = c.args.name.now in
+    let lesson = c.args.lesson.now in
+    let given = c.in_ok-given.given in
+    let file = c.in_ok-file.file in
+    made_said (join_smf lesson name c.args.top_first) (g.F.Shelf.files c.args.shelf.now) _
+    (given ∷ file ∷ []) c.of_texts.result c.said.result (
+      c.in_ok-given.ensures.reads,
+      read_same 1048576 (g.F.Shelf.files c.args.shelf.now) _ (name ∷ []) (file ∷ [])
+          c.in_ok-given.ensures.files (c.in_ok-file.ensures.reads, tt),
+    )
+    (of_joining (g.F.Shelf.files c.args.shelf.now) lesson name c.args.top_first given file c.of_texts.result
+    c.of_texts.ensures)
+    c.said.ensures.says
+
+pub returns-in_err-given-clause-served : goal.returns-in_err-given-clause-served
+returns-in_err-given-clause-served g c =
+    let told = err_from_is_err_and c.from_residual.result c.from_residual.ensures.1 in
+    rw (told.1, told.2) (λ promised. c.in_err-given.ensures.served promised.before.0)
+
+pub returns-in_err-file-clause-served : goal.returns-in_err-file-clause-served
+returns-in_err-file-clause-served g c =
+    let told = err_from_is_err_and c.from_residual-in_err-file.result c.from_residual-in_err-file.ensures.1 in
+    rw (told.1, told.2) (λ promised. c.in_err-file.ensures.served
+    (whole_kept (g.F.Shelf.serves c.args.shelf.now) (g.F.Shelf.serves c.read_content.new.shelf) c.args.name.now 1048576
+    c.in_ok-given.ensures.serving promised.before.1.0))
+
+pub returns-clause-served : goal.returns-clause-served
+returns-clause-served g c = λ _. c.said.ensures.reads
+
+pub returns-in_err-given-clause-blamed : goal.returns-in_err-given-clause-blamed
+returns-in_err-given-clause-blamed g c =
+    let told = err_from_is_err_and c.from_residual.result c.from_residual.ensures.1 in
+    rw (told.1, told.2) (text_blames (IsUnserved (g.F.Shelf.serves c.args.shelf.now) (g.F.Shelf.files c.args.shelf.now)
+    (join_smf c.args.lesson.now c.args.name.now c.args.top_first)) 1048576 _ _
+    (g.F.Shelf.serves c.args.shelf.now) c.args.lesson.now _
+    c.in_err-given.ensures.reads c.in_err-given.ensures.served (λ denied. inl ((0, omega arith, refl), denied)))
+
+pub returns-in_err-file-clause-blamed : goal.returns-in_err-file-clause-blamed
+returns-in_err-file-clause-blamed g c =
+    let told = err_from_is_err_and c.from_residual-in_err-file.result c.from_residual-in_err-file.ensures.1 in
+    rw (told.1, told.2) (text_blames (IsUnserved (g.F.Shelf.serves c.args.shelf.now) (g.F.Shelf.files c.args.shelf.now)
+    (join_smf c.args.lesson.now c.args.name.now c.args.top_first)) 1048576 _ _
+    (g.F.Shelf.serves c.read_content.new.shelf) c.args.name.now _
+    c.in_err-file.ensures.reads c.in_err-file.ensures.served (λ denied. inl (
+      (1, omega arith, refl),
+      λ promised. denied (whole_kept (g.F.Shelf.serves c.args.shelf.now) (g.F.Shelf.serves c.read_content.new.shelf)
+          c.args.name.now 1048576 c.in_ok-given.ensures.serving promised),
+    )))
+
+pub returns-clause-blamed : goal.returns-clause-blamed
+returns-clause-blamed g c =
+    result_blames_none (IsUnserved (g.F.Shelf.serves c.args.shelf.now) (g.F.Shelf.files c.args.shelf.now)
+    (join_smf c.args.lesson.now c.args.name.now c.args.top_first)) c.said.result c.said.ensures.reads
+
+pub returns-in_err-given-clause-little : goal.returns-in_err-given-clause-little
+returns-in_err-given-clause-little g c = inl (omega (arith, c.read_content.ensures.little))
+
+pub returns-in_err-file-clause-little : goal.returns-in_err-file-clause-little
+returns-in_err-file-clause-little g c =
+    inl (omega (arith, c.read_content.ensures.little, c.read_content-2.ensures.little))
+
+pub returns-clause-little : goal.returns-clause-little
+returns-clause-little g c = inl (omega (arith, c.read_content.ensures.little, c.read_content-2.ensures.little))
