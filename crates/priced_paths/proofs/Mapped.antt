@@ -148,7 +148,7 @@ module _ {K : Type 0} {live : List ℕ → Option ℕ} {height : ℕ} {kept : Li
       record {
         edge = found.edge;
         is_edge = is_edge;
-        low = found.leads.low;
+        low = omega (arith, found.leads.costs);
         next = record {
           spot = found.leads.next;
           is_spot = found.leads.is_next;

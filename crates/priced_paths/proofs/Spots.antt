@@ -134,7 +134,7 @@ module _ {K : Type 0} {start : K} {height : ℕ} {breadth : ℕ → ℕ} {step :
       record {
         later = its.leads.later;
         within = slice_get_within web.spots.items edge.to its.leads.next its.leads.is_next;
-        small = its.leads.small;
+        small = omega (arith, its.leads.costs);
         above = omega (arith, depth, above.0);
         deeper = depth-of web edge.to its.leads.next its.leads.is_next ∙ its.leads.deeper ∙ ap (λ d. d + 1) (sym depth);
         is_label = subst (λ (d : ℕ). label < breadth d) (sym depth) (omega (arith, above.1.all, parts.is_label));

@@ -1,14 +1,14 @@
 -- How a path stands in each case, and its sums.
 use Rattle.std.specs.Prelude.{◌≡◌, ℕ, ◌+◌, ◌*◌, ◌^◌, ◌<◌, ◌≤◌, ◌||◌, [], List, Option, Some, None, IfSome, Bool, option_map, length, slice_index_or}
 use Rattle.floor_graphs.specs.Graphs.{AreChecked, Rate, sum_at, units_of}
-use Rattle.floor_graphs.specs.Numbers.{AreSmall, IsEndBelow, is_edge_by, number_in}
+use Rattle.floor_graphs.specs.Numbers.{AreLeast, AreSmall, IsEndBelow, is_edge_by, number_in}
 use Rattle.floor_graphs.specs.Cases.{least_below, least_of_cases}
 use Rattle.priced_paths.specs.declared.guide.Standing.{Standing}
 use Rattle.priced_paths.specs.declared.guide.Place.{Place}
 use Rattle.priced_paths.specs.declared.web.Web.{Web}
 use Rattle.priced_paths.specs.Tolls.{charged_to, has_reached}
 use Rattle.priced_paths.specs.Webs.{spot_at, depth_in}
-use Rattle.priced_paths.specs.CaseGraphs.{Case, case_edge, case_ends, node_at, nodes_of}
+use Rattle.priced_paths.specs.CaseGraphs.{Case, case_edge, case_ends, case_width, node_at, nodes_of}
 
 -- what was charged, and whether what is asked for was reached
 abbrev pub standing : Bool → ℕ → Standing
@@ -85,10 +85,12 @@ pub record IsPlaceOf {K : Type 0} (web : Web K) (case : ℕ → Case) (count : �
   pub standings : (k : ℕ) → k < count → standing_in place k ≡ standing_of (case k) path
   pub cheap : (k : ℕ) → k < count → IsCheap (length path) (standing_in place k)
 
--- the numbers of a case's graph: they pass their check, and a unit of value is worth something
+-- the numbers of a case's graph: they pass their check, are the least ones, and a unit of value is
+-- worth something
 pub record AreNumbersOf {K : Type 0} (web : Web K) (height : ℕ) (case : Case) (numbers : List (Option ℕ)) : Type 0 where
   pub checked : AreChecked (is_edge_by (case_edge web case)) (IsEndBelow (case_ends web height) (nodes_of web))
       (number_in numbers)
+  pub least : AreLeast (case_edge web case) (case_width web) (case_ends web height) (nodes_of web) numbers
   pub small : AreSmall numbers
   pub some : 0 < case.rate.scale
   pub whole : length numbers ≡ nodes_of web

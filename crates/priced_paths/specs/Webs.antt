@@ -1,5 +1,5 @@
 -- What a web is, and where paths lead in it.
-use Rattle.std.specs.Prelude.{◌≡◌, ℕ, ◌+◌, ◌<◌, ◌≤◌, nat_lt, [], ◌∷◌, List, Option, Some, None, option_and_then, length, slice_get, slice_index_or, if◌then◌else◌}
+use Rattle.std.specs.Prelude.{◌≡◌, ℕ, ◌+◌, ◌<◌, ◌≤◌, nat_lt, [], ◌∷◌, List, Option, Some, None, option_and_then, length, min, slice_get, slice_index_or, if◌then◌else◌}
 use Rattle.priced_paths.specs.declared.web.Edge.{Edge}
 use Rattle.priced_paths.specs.declared.web.Spot.{Spot}
 use Rattle.priced_paths.specs.declared.web.Web.{Web}
@@ -44,15 +44,15 @@ IsInside {K} web at =
     (spot : Spot K) → slice_get web.spots.items at ≡ Some spot → 0 < spot.labels
     → spot.first + spot.labels ≤ length web.edges.items
 
--- the edge leads to a later spot, one deeper, at which this is kept, and costs no more than this
+-- the edge leads to a later spot, one deeper, at which this is kept, and costs this, or the most that
+-- an edge may where that is less
 pub record LeadsOn {K : Type 0} (web : Web K) (at depth : ℕ) (kept : K) (cost : ℕ) (edge : Edge) : Type 0 where
   pub later : at < edge.to
   pub next : Spot K
   pub is_next : slice_get web.spots.items edge.to ≡ Some next
   pub deeper : next.depth ≡ depth + 1
   pub same : next.kept ≡ kept
-  pub low : edge.cost ≤ cost
-  pub small : edge.cost ≤ MOST_COST
+  pub costs : edge.cost ≡ min cost MOST_COST
 
 -- there is an edge where there is a step, and it leads on as the step does
 abbrev pub IsEdgeOf : {K : Type 0} → Web K → ℕ → ℕ → Option Edge → Option (K × ℕ) → Type 0

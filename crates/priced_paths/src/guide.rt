@@ -31,7 +31,7 @@ pub struct Place {
 }
 
 /// The place of the empty path.
-fn first_place() -> Place
+pub fn first_place() -> Place
     ensures at { result.at ≡ 0 }
     ensures standings { (k : ℕ) → k < MOST_CASES → standing_in result k ≡ Some (standing false 0) }
 {
@@ -146,7 +146,7 @@ impl<'a, P: Pricing> PricedGuide<'a, P> {
     }
 
     /// The least of the sums of all cases.
-    fn least_sum(&self, place: &Place, settled: u64) -> Option<u64>
+    pub fn least_sum(&self, place: &Place, settled: u64) -> Option<u64>
         requires at { place.now.at < length self.now.web.now.spots.items }
         requires settled { settled < 2 ^ 48 }
         ensures { result ≡ least_at self.now.web.now (case_of (P.toll_at self.now.pricing.now)
@@ -187,7 +187,7 @@ impl<'a, P: Pricing> PricedGuide<'a, P> {
     }
 
     /// The place behind a step to a spot.
-    fn place_after(&self, place: &Place, depth: usize, label: usize, to: u32) -> Place
+    pub fn place_after(&self, place: &Place, depth: usize, label: usize, to: u32) -> Place
         requires above { depth < P.Tree.height (P.tree self.now.pricing.now) }
         requires label { label < P.breadth self.now.pricing.now depth }
         requires cheap { (k : ℕ) → k < P.count self.now.pricing.now

@@ -12,7 +12,7 @@ pub const MOST_SPOTS: usize = 4_194_304;
 /// What an edge may cost.
 pub const MOST_COST: u32 = 524_287;
 
-/// An edge to a later spot, and what it costs at most.
+/// An edge to a later spot, and what it costs.
 #[derive(Clone, Copy)]
 pub struct Edge {
     pub to: u32,
@@ -60,8 +60,8 @@ impl<K: Copy> Web<K> {
     }
 }
 
-/// Whether an edge leads to a later spot, one deeper, at which this is kept, and costs no more than
-/// this.
+/// Whether an edge leads to a later spot, one deeper, at which this is kept, and costs this, or the
+/// most that an edge may where that is less.
 fn leads_on<P: Pricing>(
     pricing: &P,
     web: &Web<P::Kept>,
@@ -76,7 +76,7 @@ fn leads_on<P: Pricing>(
     let Some(next) = web.spots.get(edge.to as usize) else {
         return false;
     };
-    if edge.to as usize <= at || edge.cost > cost || edge.cost > MOST_COST {
+    if edge.to as usize <= at || edge.cost != cost.min(MOST_COST) {
         return false;
     }
     if next.depth == 0 || next.depth - 1 != depth {

@@ -12,6 +12,7 @@ returns g c =
     (g.P.Pricing.rate_of c.args.pricing.now) c.args.case) c.in_ok-numbers.numbers.items =
     record {
       checked = least.checked;
+      least = least.least;
       small = least.small;
       some = omega (arith, c.rate-scale.ensures.some, c.rate-scale.ensures.scale);
       whole = least.least.all;

@@ -13,6 +13,5 @@ returns g c =
       is_next = rw c.deref.ensures.value at read;
       deeper = omega arith;
       same = c.if-not-is_same.ensures;
-      low = omega arith;
-      small = omega arith;
+      costs = omega arith;
     }
