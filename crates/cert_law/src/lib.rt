@@ -18,5 +18,7 @@ pub use entries::true_entries_are_low;
 pub use judged::Judged;
 pub use known::PrefixKnown;
 pub use law::{shown_by, weights_are_small, written};
+pub use soon::{is_break_told, told_break};
 pub use tailed::TailedCase;
 pub use tails::Tails;
+pub use truth::{first_claim, is_open, is_true};

@@ -24,7 +24,7 @@ fn has_length(case: &Case<'_>, count: usize) -> bool
 
 /// The least rule that is broken in a prefix with a column more, where it is soon told and that
 /// isn't as long as the head's setting.
-pub(crate) fn told_break(case: &Case<'_>, judged: &Judged, column: &Column) -> Option<u8>
+pub fn told_break(case: &Case<'_>, judged: &Judged, column: &Column) -> Option<u8>
     requires case { IsCase (matter_of case.now) }
     requires room { judged.now.state.newest.len < columns_in case.now.exercise.now }
     requires full { length column.now.items ≡ case.now.exercise.now.voices }
@@ -45,7 +45,7 @@ pub(crate) fn told_break(case: &Case<'_>, judged: &Judged, column: &Column) -> O
 
 /// Whether a claim is soon told to be true of a prefix with a column more: it is of a rule that the
 /// column breaks.
-pub(crate) fn is_break_told(case: &Case<'_>, judged: &Judged, column: &Column, claim: Claim) -> bool
+pub fn is_break_told(case: &Case<'_>, judged: &Judged, column: &Column, claim: Claim) -> bool
     requires case { IsCase (matter_of case.now) }
     requires room { judged.now.state.newest.len < columns_in case.now.exercise.now }
     requires full { length column.now.items ≡ case.now.exercise.now.voices }
