@@ -5,7 +5,7 @@ use Rattle.std.specs.Int.{int_max, int_min}
 use Rattle.fux_pitch.specs.declared.pitch.Pitch.{Pitch}
 use Rattle.fux_grid.specs.declared.cell.Cell.{Cell}
 use Rattle.fux_pitch.specs.Pitch.{key_of}
-use Rattle.fux_grid.specs.declared.cell.Cell.TheVariants.{Hold, Start}
+use Rattle.fux_grid.specs.declared.cell.Cell.TheVariants.{Rest, Hold, Start}
 use Rattle.melody_rules.specs.declared.notes.VoiceNotes.{VoiceNotes}
 use Rattle.melody_rules.specs.Held.{pitches-hold}
 use Rattle.melody_rules.specs.Notes.{IsNotesOf}
@@ -24,6 +24,16 @@ notes-hold p cells notes r =
       greatest = rw same r.greatest;
       least = rw same r.least;
     }
+
+-- and neither does a rest
+pub notes-rest : (cells : List Cell) (notes : VoiceNotes) → IsNotesOf cells notes → IsNotesOf (Rest ∷ cells) notes
+notes-rest cells notes r = record {
+  last = r.last;
+  before = r.before;
+  turning = r.turning;
+  greatest = r.greatest;
+  least = r.least;
+}
 
 -- a note widens the span by the greatest key and the least
 pub widens_is : (p : Pitch) (cells : List Cell) (notes : VoiceNotes) → IsNotesOf cells notes

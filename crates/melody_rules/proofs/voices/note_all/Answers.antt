@@ -8,6 +8,7 @@ use Rattle.fux_grid.specs.Columns.{line}
 use Rattle.rule_law.proofs.FourLemmas.{between_more}
 use Rattle.melody_rules.specs.declared.notes.VoiceNotes.{VoiceNotes}
 use Rattle.melody_rules.specs.Notes.{IsNotesOf}
+use Rattle.melody_rules.proofs.LineLemmas.{notes-rest}
 use Rattle.melody_rules.proofs.voices.note_all.Goals as goal
 
 pub loop-v-init : goal.loop-v-init
@@ -46,5 +47,5 @@ returns c = λ behind are v notes is.
           subst Grown
           (sym (get_or_past c.args.column.now v Rest
           (omega (arith, from, inside, c.loop-v.invariant.long, c.loop-v-test.false, c.min-v-end.ensures))))
-          (each.1 from)
+          (notes-rest (line v behind) notes (each.1 from))
     ]

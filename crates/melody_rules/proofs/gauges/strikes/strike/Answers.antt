@@ -23,7 +23,7 @@ returns c = λ ps few r.
           c.place_of-place.ensures.value within more (r.counts q);
       beyond = omega (
         arith,
-        c.saturating_add-2.ensures,
+        c.saturating_add-kept.ensures,
         r.beyond,
         again,
         as_number-bound
