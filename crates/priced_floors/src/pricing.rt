@@ -102,6 +102,7 @@ impl<'a> PricedSpace<'a> {
         requires few { length charges.now.summits.items ≤ CASES }
         ensures space { IfOk result (λ priced. priced.space.now ≡ space.entry.now) }
         ensures keeps { IfOk result (λ priced. priced.keeps ≡ keeps) }
+        ensures charges { IfOk result (λ priced. priced.charges.now ≡ charges.entry.now) }
     {
         let debts = debts_of(alloc, space.exercise(), charges)?;
         Ok(PricedSpace {
