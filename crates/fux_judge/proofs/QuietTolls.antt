@@ -65,7 +65,7 @@ module _ (ex : Exercise) (there : ex.cantus_voice < ex.voices) (sheet : Sheet) (
   at_most_one true = omega arith
   at_most_one false = omega arith
 
-  no_bar : (b : Bool) → b ≡ false → (if b then 1 else 0) ≡ 0
+  no_bar : (b : Bool) → b ≡ false → ◌≡◌ {A = ℕ} (if b then 1 else 0) 0
   no_bar b e = ap (λ t. if t then 1 else 0) e
 
   thirds : toll_late ex sheet p col 3 ≡ 0
