@@ -2,7 +2,7 @@
 -- column that strays or dies (`stray_no_better`), as all do but one where a column of holds follows
 -- (`other_no_better`), and one that is pruned (`pruned_no_better`).
 use Rattle.std.specs.Prelude.{IsSomeAnd}
-use Rattle.std.proofs.Common.{◌≡◌, inl, inr, ◌+◌, ◌<◌, ◌≤◌, ⊥, All, Option, ℕ, Bool, List, [], length, reverse, slice_index_or, ap, sym, ◌∙◌, subst, true, arith}
+use Rattle.std.proofs.Common.{◌≡◌, inl, inr, ◌+◌, ◌<◌, ◌≤◌, All, Option, ℕ, Bool, List, [], length, reverse, slice_index_or, ap, sym, ◌∙◌, subst, true, arith}
 use Rattle.std.specs.List.{list_any}
 use Rattle.fux_grid.specs.declared.cell.Cell.{Cell}
 use Rattle.fux_grid.specs.declared.exercise.Exercise.{Exercise}

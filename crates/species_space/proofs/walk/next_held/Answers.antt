@@ -44,7 +44,7 @@ returns-then-not-may_be_better-clause-passed g c = λ path at j le lt.
       | inr differ ↦ other_no_better c.args.exercise.now c.args.sheet.now c.args.node.now path at
           (columns_seen c.args.menu.now) hint j g.R.Rests.chained c.args.best c.args.before.now
           c.requires.menu.columns (c.requires.before path at) (cut.holds held.1) cut.order cut.full held.0 held.2
-          (omega (arith, lt, c.len-2.ensures)) differ
+          (omega (arith, lt, c.len-then-not-may_be_better.ensures)) differ
     ]
 
 pub returns-clause-passed : goal.returns-clause-passed
