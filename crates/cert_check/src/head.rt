@@ -29,7 +29,7 @@ fn breaks_for(rule: u8, ex: &Exercise, score: &Score, i: usize, voices: VoiceSet
     price_at(ex, rule, voices, (i / 8 + 1) as u8).is_strict()
 }
 
-/// Whether it is for some set of voices.
+/// Whether a rule is strictly broken at a place for some set of voices.
 fn breaks_for_some(rule: u8, ex: &Exercise, score: &Score, i: usize) -> bool
     requires valid { IsValid ex.now }
     requires complete { IsComplete ex.now score.now }
@@ -45,7 +45,7 @@ fn breaks_for_some(rule: u8, ex: &Exercise, score: &Score, i: usize) -> bool
     false
 }
 
-/// Whether some rule is.
+/// Whether some rule is strictly broken at a place.
 fn breaks_at(ex: &Exercise, score: &Score, i: usize) -> bool
     requires valid { IsValid ex.now }
     requires complete { IsComplete ex.now score.now }

@@ -279,8 +279,8 @@ module _ {P H X : Type 0} (family : P → Subject H X) (files : Files) (name : L
       such = subst (λ n. read ≤ line_end n near.bytes + longest_piece) (sym known.such.0) near.such;
     }
     fault_near (CertEnd at) read known near = record { bytes = known.bytes; had = known.had; such = tt }
-    fault_near (CertHead at) read known near = record { bytes = known.bytes; had = known.had; such = tt }
-    fault_near Memory read known near = record { bytes = known.bytes; had = known.had; such = tt }
+    fault_near (CertHead at) read known near = absurd known.such
+    fault_near Memory read known near = absurd known.such
 
     -- the same with what a shelf gave: where a line is wrong, nothing beyond what was read
     pub wrong_near : (fault : CertFault) (before past read : ℕ) → MayBe files name (FaultAt on.now fault)

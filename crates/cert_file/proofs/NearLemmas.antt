@@ -1,22 +1,22 @@
 -- What is known of how much is read: it moves to the files and the count of before (`near_moved`,
 -- `read_moved`).
-use Rattle.std.proofs.Common.{◌≡◌, ℕ, ◌+◌, ◌≤◌, inl, inr, List, Result, Ok, Err, subst, arith}
-use Rattle.std.specs.Prelude.{IfOk}
+use Rattle.std.proofs.Common.{◌≡◌, ℕ, ◌+◌, ◌≤◌, inl, inr, List, Result, Ok, Err, subst}
+use Rattle.std.specs.Prelude.{IfOk, OnErr}
 use Rattle.cert_file.specs.Nearness.{IsReadNear, IsReadTo, ReadsNear}
 use Rattle.cert_file.specs.Readings.{Files, MayBe, longest_piece}
 use Rattle.cert_file.specs.Subjects.{Subject}
 use Rattle.cert_file.specs.declared.verdict.Verdict.{Verdict}
 
--- what holds of every verdict, and what follows from another fact of each
+-- what holds whatever the result is, holds where it is an error
+pub on_err : {T E A : Type 0} (result : Result T E) → A → OnErr result A
+on_err (Ok it) all = tt
+on_err (Err fault) all = all
+
+-- what holds of every verdict
 pub each_verdict : {E : Type 0} (Such : Verdict → Type 0) (result : Result Verdict E) → ((it : Verdict) → Such it)
     → IfOk result Such
 each_verdict Such (Ok it) all = all it
 each_verdict Such (Err fault) all = tt
-
-pub then_verdict : {E : Type 0} (Such So : Verdict → Type 0) (result : Result Verdict E)
-    → ((it : Verdict) → Such it → So it) → IfOk result Such → IfOk result So
-then_verdict Such So (Ok it) follows such = follows it such
-then_verdict Such So (Err fault) follows such = tt
 
 module _ {H X : Type 0} (subject : Subject H X) (head : H) (files : Files) (name : List ℕ) where
   -- the files are those of before, and what was given since then is counted, too

@@ -59,8 +59,8 @@ fault_given files name front begun rose later now after (Text fault) so read = r
 
 -- a reader has read no more than a piece beyond the line behind its front
 pub stands_near : (before : Reading) (offset : ℕ) → length before.ahead ≤ longest_piece → offset ≡ before.offset
-    → StandsNear before offset
-stands_near before offset short same = λ files name front at.
+    → (files : Files) (name : List ℕ) → StandsNear files name before offset
+stands_near before offset short same files name = λ front at.
     near_line files name front before.claims.begun before.ahead offset at.unended at.begins (same ∙ at.offset) short
 
 -- no bytes begin a claim's line

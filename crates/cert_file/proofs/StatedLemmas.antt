@@ -23,8 +23,8 @@ use Rattle.cert_file.proofs.PieceLemmas.{none_left, sizes, split}
 
 -- a reader has read no more than a piece beyond the line behind its front
 pub stands_near_stated : (before : StatedReading) (offset : ℕ) → length before.ahead ≤ longest_piece
-    → offset ≡ before.offset → StandsNearStated before offset
-stands_near_stated before offset short same = λ files name front at.
+    → offset ≡ before.offset → (files : Files) (name : List ℕ) → StandsNearStated files name before offset
+stands_near_stated before offset short same files name = λ front at.
     near_line files name front before.entries.begun before.ahead offset at.unended at.begins (same ∙ at.offset) short
 
 -- no bytes begin any line that is owed

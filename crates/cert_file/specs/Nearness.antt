@@ -7,7 +7,7 @@ use Rattle.cert_file.specs.StatedReadings.{IsAtStated, StatedReading}
 use Rattle.cert_file.specs.Subjects.{IsTextOf, Subject}
 use Rattle.cert_file.specs.declared.verdict.Verdict.{Verdict}
 use Rattle.cert_file.specs.declared.verdict.Verdict.TheVariants as verdict
-use Rattle.cert_text.specs.declared.answers.CertFault.TheVariants.{CertWord}
+use Rattle.cert_text.specs.declared.answers.CertFault.TheVariants.{CertHead, CertWord, CertEnd, Memory}
 use Rattle.cert_text.specs.declared.answers.Why.{Why}
 use Rattle.cert_text.specs.declared.answers.Why.TheVariants.{Head, False, Over, Short, Potential}
 use Rattle.cert_text.specs.declared.claim.Claim.{Claim}
@@ -22,15 +22,14 @@ abbrev pub EndsNear : Files → List ℕ → ℕ → ℕ → Type 0
 EndsNear files name at read = MayBe files name (λ bytes. read ≤ line_end at bytes + longest_piece)
 
 -- a reader that stands behind a front has read no more than a piece beyond the line behind that
-abbrev pub StandsNear : Reading → ℕ → Type 0
-StandsNear before offset =
-    (files : Files) (name front : List ℕ) → IsAt files name front before
-    → EndsNear files name (length front) offset
+abbrev pub StandsNear : Files → List ℕ → Reading → ℕ → Type 0
+StandsNear files name before offset =
+    (front : List ℕ) → IsAt files name front before → EndsNear files name (length front) offset
 
-abbrev pub StandsNearStated : StatedReading → ℕ → Type 0
-StandsNearStated before offset =
-    (files : Files) (name front : List ℕ) → IsAtStated files name front before
-    → EndsNear files name (length front) offset
+-- the same of a reader of what is stated
+abbrev pub StandsNearStated : Files → List ℕ → StatedReading → ℕ → Type 0
+StandsNearStated files name before offset =
+    (front : List ℕ) → IsAtStated files name front before → EndsNear files name (length front) offset
 
 -- bytes begin with the text of the head and of so many claims, and no more than a piece was read
 -- beyond that
@@ -43,22 +42,25 @@ pub record IsReadToClaim {H X : Type 0} (subject : Subject H X) (head : H) (numb
     pub begins : StartsWith bytes front
     pub near : read ≤ length front + longest_piece
 
--- how much is read where a claim is refused, or a number that is stated: these are judged where all
--- of them are read. A claim that is wanting takes the whole file
+-- how much is read where a claim is refused, a head, or a number that is stated: numbers are judged
+-- when all of them are read. A claim that is wanting takes the whole file
 abbrev pub IsReadFor : {H X : Type 0} → Subject H X → H → ℕ → ℕ → Why → List ℕ → Type 0
 IsReadFor subject head read number False bytes = IsReadToClaim subject head number read bytes
 IsReadFor subject head read number Over bytes = IsReadToClaim subject head number read bytes
 IsReadFor subject head read number Potential bytes = IsReadToClaim subject head 0 read bytes
 IsReadFor subject head read number Short bytes = ⊤
-IsReadFor subject head read number Head bytes = ⊤
+IsReadFor subject head read number Head bytes = read ≤ longest_piece
 
--- how much is read where this is the verdict: a file that is accepted, or ends where it may not, is
--- read to its end
+-- how much is read where this is the verdict: no more than a piece where no head stands at the front,
+-- or beyond a line that is wrong. A file that is accepted, or ends where it may not, is read to its
+-- end
 abbrev pub IsReadTo : {H X : Type 0} → Subject H X → H → ℕ → Verdict → List ℕ → Type 0
 IsReadTo subject head read (verdict.Claim refused) bytes =
     IsReadFor subject head read refused.number refused.why bytes
 IsReadTo subject head read (verdict.Text (CertWord at)) bytes = read ≤ line_end at bytes + longest_piece
-IsReadTo subject head read (verdict.Text fault) bytes = ⊤
+IsReadTo subject head read (verdict.Text (CertHead at)) bytes = read ≤ longest_piece
+IsReadTo subject head read (verdict.Text (CertEnd at)) bytes = ⊤
+IsReadTo subject head read (verdict.Text Memory) bytes = ⊤
 IsReadTo subject head read (verdict.Accepted answer) bytes = ⊤
 
 -- a shelf that had given so many bytes gave this many, and what it gave since ends so

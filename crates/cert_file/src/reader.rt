@@ -60,7 +60,8 @@ impl Reader {
 
         // No more is read than a piece beyond the line that is read, or that is wrong.
         ensures short { length self.new.ahead ≤ longest_piece }
-        ensures near { OnErr result (StandsNear self.old self.new.offset) }
+        ensures near { OnErr result (StandsNear (F.files shelf.old) name.now self.old
+            self.new.offset) }
         ensures told_word { (at : ℕ) → result ≡ Err (ReadFault.Text (CertFault.CertWord at))
             → F.given shelf.new + self.old.offset ≤ F.given shelf.old + self.new.offset }
 
@@ -96,7 +97,8 @@ impl Reader {
             → TakesLine files name front self.new result }
         ensures offset { self.new.offset ≡ self.old.offset }
         ensures short { length self.new.ahead ≤ longest_piece }
-        ensures near { StandsNear self.old self.new.offset }
+        ensures near { (files : Files) (name : List ℕ) → StandsNear files name self.old
+            self.new.offset }
         ensures limit { self.old.offset ≤ 1073741824 }
     {
         match self.claims.take(self.pieces.ahead()) {
@@ -112,7 +114,6 @@ impl Reader {
     fn end(&self) -> Result<Option<Claim>, ReadFault>
         ensures gives { GivesEnd self.now result }
         ensures read { IfErr result (λ fault. fault ≢ ReadFault.Unreadable) }
-        ensures near { StandsNear self.now self.now.offset }
     {
         match self.claims.end() {
             Ok(()) => Ok(None),
@@ -129,7 +130,7 @@ impl Reader {
         ensures short { length self.new.ahead ≤ longest_piece }
         ensures fault { IfErr result (λ fault. (at : ℕ)
             → fault ≢ ReadFault.Text (CertFault.CertWord at)) }
-        ensures near { OnErr result (StandsNear self.old self.new.offset) }
+        ensures stays { OnErr result (self.new.offset ≡ self.old.offset) }
         ensures served { ServesWhole (F.serves shelf.old) name.now 1073741824
             → IfErr result (λ fault. fault ≢ ReadFault.Unreadable) }
         ensures serving { Keeps (F.serves shelf.old) (F.serves shelf.new) }

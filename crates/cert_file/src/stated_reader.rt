@@ -60,7 +60,8 @@ impl StatedReader {
 
         // No more is read than a piece beyond the line that is read, or that is wrong.
         ensures short { length self.new.ahead ≤ longest_piece }
-        ensures near { OnErr result (StandsNearStated self.old self.new.offset) }
+        ensures near { OnErr result (StandsNearStated (F.files shelf.old) name.now self.old
+            self.new.offset) }
         ensures told_word { (at : ℕ) → result ≡ Err (ReadFault.Text (CertFault.CertWord at))
             → F.given shelf.new + self.old.offset ≤ F.given shelf.old + self.new.offset }
 
@@ -102,7 +103,8 @@ impl StatedReader {
             ≡ false)) }
         ensures offset { self.new.offset ≡ self.old.offset }
         ensures short { length self.new.ahead ≤ longest_piece }
-        ensures near { StandsNearStated self.old self.new.offset }
+        ensures near { (files : Files) (name : List ℕ) → StandsNearStated files name self.old
+            self.new.offset }
         ensures limit { self.old.offset ≤ 1073741824 }
     {
         match self.entries.take(self.pieces.ahead()) {
@@ -117,8 +119,7 @@ impl StatedReader {
     /// What the end of the file is: a line is wanting, or not ended.
     fn end(&self) -> CertFault
         requires { self.now.entries.done ≡ false }
-        ensures ends { EndsStated self.now result }
-        ensures near { StandsNearStated self.now self.now.offset }
+        ensures { EndsStated self.now result }
     {
         self.entries.end()
     }
@@ -133,7 +134,7 @@ impl StatedReader {
         ensures short { length self.new.ahead ≤ longest_piece }
         ensures fault { IfErr result (λ fault. (at : ℕ)
             → fault ≢ ReadFault.Text (CertFault.CertWord at)) }
-        ensures near { OnErr result (StandsNearStated self.old self.new.offset) }
+        ensures stays { OnErr result (self.new.offset ≡ self.old.offset) }
         ensures served { ServesWhole (F.serves shelf.old) name.now 1073741824
             → IfErr result (λ fault. fault ≢ ReadFault.Unreadable) }
         ensures serving { Keeps (F.serves shelf.old) (F.serves shelf.new) }

@@ -1,10 +1,11 @@
 use Rattle.std.proofs.Common.{◌+◌, inl, Result, Err, refl, sym, subst, arith}
+use Rattle.std.proofs.lemmas.Result.{IfOk-weaker}
 use Rattle.cert_check.specs.Answers.{Answers}
 use Rattle.cert_check.specs.declared.checking.CheckFault.{CheckFault}
 use Rattle.cert_check.proofs.AnswerLemmas.{answers_moved, starts_answer, unstarted_missing}
 use Rattle.cert_check.proofs.RefusedLemmas.{accepted_answer}
 use Rattle.cert_file.specs.declared.verdict.Verdict.{Verdict}
-use Rattle.cert_file.proofs.NearLemmas.{each_verdict, read_moved, then_verdict}
+use Rattle.cert_file.proofs.NearLemmas.{each_verdict, read_moved}
 use Rattle.cert_check.specs.Settings.{Asked, setting_subject}
 use Rattle.fux_port.specs.Counts.{Rose}
 use Rattle.fux_port.proofs.Rises.{rose_later}
@@ -60,7 +61,7 @@ returns-in-Err-clause-near g c = each_verdict _ c.not_started.result (λ it. inl
 pub returns-in-First-clause-near : goal.returns-in-First-clause-near
 returns-in-First-clause-near g c =
     let asked : Asked = record { exercise = c.args.ex.now; sheet = c.args.sheet.now } in
-    then_verdict _ _ c.check_first.result
+    IfOk-weaker c.check_first.result _ _
     (λ it near. read_moved (setting_subject asked) (g.F.Shelf.files c.start.new.shelf) c.args.name.now
     (g.F.Shelf.files c.args.shelf.now) (g.F.Shelf.given c.args.shelf.now) (g.F.Shelf.given c.start.new.shelf)
     (g.F.Shelf.given c.check_first.new.shelf + c.in-Ok.started.2.offset) (g.F.Shelf.given c.check_first.new.shelf) it
@@ -70,7 +71,7 @@ returns-in-First-clause-near g c =
 pub returns-in-Second-clause-near : goal.returns-in-Second-clause-near
 returns-in-Second-clause-near g c =
     let asked : Asked = record { exercise = c.args.ex.now; sheet = c.args.sheet.now } in
-    then_verdict _ _ c.check_second.result
+    IfOk-weaker c.check_second.result _ _
     (λ it near. read_moved (setting_subject asked) (g.F.Shelf.files c.start.new.shelf) c.args.name.now
     (g.F.Shelf.files c.args.shelf.now) (g.F.Shelf.given c.args.shelf.now) (g.F.Shelf.given c.start.new.shelf)
     (g.F.Shelf.given c.check_second.new.shelf + c.in-Ok.started.2.offset) (g.F.Shelf.given c.check_second.new.shelf) it

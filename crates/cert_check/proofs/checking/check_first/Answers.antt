@@ -1,11 +1,12 @@
 use Rattle.std.proofs.Common.{◌≡◌, ◌+◌, inl, List, [], None, Result, refl, sym, ap, subst, arith}
 use Rattle.std.specs.Prelude.{IfOk}
+use Rattle.std.proofs.lemmas.Result.{IfOk-weaker}
 use Rattle.cert_check.specs.Answers.{Answers}
 use Rattle.cert_file.specs.Checking.{Checking, opened_at}
 use Rattle.cert_file.specs.Subjects.{IsOpened}
 use Rattle.cert_check.specs.Settings.{Asked, IsOpeningText, Opening, setting_subject}
 use Rattle.cert_file.specs.Nearness.{ReadsNear}
-use Rattle.cert_file.proofs.NearLemmas.{each_verdict, near_moved, then_verdict}
+use Rattle.cert_file.proofs.NearLemmas.{each_verdict, near_moved}
 use Rattle.fux_grid.specs.declared.cell.Cell.{Cell}
 use Rattle.cert_check.specs.declared.checking.CheckFault.{CheckFault}
 use Rattle.cert_check.proofs.AnswerLemmas.{first_opened, opening_answer, unopened_narrow}
@@ -56,7 +57,7 @@ returns-in-Ok-clause-near g c =
     let before = g.F.Shelf.given c.args.shelf.now in
     let past = g.F.Shelf.given c.judge_claims.new.shelf in
     let offset = c.behind.result.offset in
-    then_verdict _ _ c.judge_claims.result
+    IfOk-weaker c.judge_claims.result _ _
     (λ it near. near_moved (setting_subject asked) opening files name files before before (past + offset)
     (past + c.args.pieces.offset) it refl
     (λ read few. omega (arith, few, ap (λ (r : Reading). r.offset) c.behind.ensures)) near)

@@ -1,11 +1,12 @@
 use Rattle.std.proofs.Common.{◌≡◌, ◌+◌, inl, List, [], None, Some, Result, Err, length, refl, sym, ap, subst, ◌∙◌, arith}
 use Rattle.std.specs.Prelude.{IfOk}
+use Rattle.std.proofs.lemmas.Result.{IfOk-weaker}
 use Rattle.cert_check.specs.Answers.{Answers, unstarted}
 use Rattle.cert_file.specs.Checking.{Checking, opened_at}
 use Rattle.cert_file.specs.Subjects.{IsOpened}
 use Rattle.cert_check.specs.Settings.{Asked, IsOpeningText, Opening, setting_subject}
 use Rattle.cert_file.specs.Nearness.{IsReadNear, ReadsNear}
-use Rattle.cert_file.proofs.NearLemmas.{each_verdict, near_moved, then_verdict}
+use Rattle.cert_file.proofs.NearLemmas.{each_verdict, near_moved}
 use Rattle.cert_check.proofs.NearLemmas.{closed_near, entered_near}
 use Rattle.cert_check.specs.Starts.{IsEntered, IsStatedWhole}
 use Rattle.fux_grid.specs.declared.cell.Cell.{Cell}
@@ -172,7 +173,7 @@ returns-in-Ok-close-clause-near g c =
     let entries = c.enter.new.stated.entries in
     let far = c.claims.result.offset in
     let result = c.judge_claims.result in
-    then_verdict _ _ result
+    IfOk-weaker result _ _
     (λ it near. near_moved (setting_subject asked) (record { head = c.args.head; stated = Some entries }) then name
     (g.F.Shelf.files c.args.shelf.now) before mid (past + far) (past + c.args.pieces.offset) it c.enter.ensures.files
     (λ read few. omega (

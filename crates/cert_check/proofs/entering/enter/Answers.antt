@@ -5,7 +5,8 @@ use Rattle.std.specs.List.{flat_map}
 use Rattle.cert_text.specs.declared.potential.Potential.{Potential}
 use Rattle.cert_text.specs.Potentials.{potential_line}
 use Rattle.cert_text.specs.declared.answers.CertFault.TheVariants.{CertWord}
-use Rattle.cert_file.specs.Nearness.{EndsNear}
+use Rattle.cert_file.specs.Nearness.{EndsNear, StandsNearStated}
+use Rattle.cert_file.specs.Readings.{Files}
 use Rattle.cert_file.specs.StatedReadings.{GivesStated}
 use Rattle.cert_file.specs.declared.fault.ReadFault.{ReadFault}
 use Rattle.cert_file.specs.declared.fault.ReadFault.TheVariants.{Text}
@@ -91,5 +92,6 @@ returns-in-Err-clause-word g c = λ place is.
     (given_there s.exercise files name s.head s.entries reader on (g.F.Shelf.files c.loop-potential.shelf) later after
     (Err c.in-Err.fault) c.loop-potential.invariant.2 c.in-Err.ensures.gives) in (
       omega (arith, c.loop-potential.invariant.5, c.next.ensures.told_word place (c.in-Err.is ∙ is)),
-      subst (λ n. EndsNear files name n after.offset) (sym known.such.0) (c.in-Err.ensures.near files name front on.at),
+      subst (λ n. EndsNear files name n after.offset) (sym known.such.0) (subst (λ (fs : Files). StandsNearStated fs name reader after.offset) c.loop-potential.invariant.2
+          c.in-Err.ensures.near front on.at),
     )

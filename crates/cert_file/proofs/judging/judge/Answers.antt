@@ -3,7 +3,8 @@ use Rattle.fux_port.specs.Counts.{Rose}
 use Rattle.fux_port.proofs.Rises.{rose_later}
 use Rattle.cert_text.specs.declared.answers.CertFault.{CertFault}
 use Rattle.cert_text.specs.declared.claim.Claim.{Claim}
-use Rattle.cert_file.specs.Readings.{Gives}
+use Rattle.cert_file.specs.Nearness.{StandsNear}
+use Rattle.cert_file.specs.Readings.{Files, Gives}
 use Rattle.cert_file.specs.declared.fault.ReadFault.{ReadFault}
 use Rattle.cert_file.specs.declared.verdict.Verdict.TheVariants as verdicts
 use Rattle.cert_file.specs.Judgments.{Finds}
@@ -75,7 +76,7 @@ loop-claim-preserved g c =
     (g.F.Shelf.files c.loop-claim.shelf) c.loop-claim.invariant.1 c.in-Ok-Some.ensures.gives) in (
       takes_on g.C.Checks.subject files name (g.C.Checks.seen c.args.checker) c.loop-claim.reader (g.C.Checks.seen c.loop-claim.checker) on c.in-Ok-Some.claim (g.C.Checks.seen c.feed.new.self)
           c.next.new.self
-          read.0 read.1.0 (c.in_default.ensures.taken
+          read.0 read.1 (c.in_default.ensures.taken
           (unrefused g.C.Checks.subject files name (g.C.Checks.seen c.args.checker) c.loop-claim.reader (g.C.Checks.seen c.loop-claim.checker) on)),
       c.next.ensures.files ∙ c.loop-claim.invariant.1,
       omega (arith, c.loop-claim.invariant.2, c.next.ensures.faults),
@@ -95,7 +96,7 @@ returns-in-Err-clause-finds g c =
     (g.F.Shelf.files c.loop-claim.shelf) c.loop-claim.invariant.1 c.in-Ok-Some.ensures.gives) in
     refuses_next g.C.Checks.subject files name (g.C.Checks.seen c.args.checker) c.loop-claim.reader (g.C.Checks.seen c.loop-claim.checker) on c.in-Ok-Some.claim
     c.in-Err.refused
-    (g.C.Checks.seen c.feed.new.self) c.next.new.self read.0 read.1.0 c.next.ensures.limit_after
+    (g.C.Checks.seen c.feed.new.self) c.next.new.self read.0 read.1 c.next.ensures.limit_after
     (c.in-Err.ensures.refused (unrefused g.C.Checks.subject files name (g.C.Checks.seen c.args.checker) c.loop-claim.reader (g.C.Checks.seen c.loop-claim.checker) on))
 
 pub returns-in-Ok-None-clause-finds : goal.returns-in-Ok-None-clause-finds
@@ -146,7 +147,7 @@ returns-in-Err-clause-near g c =
       read = c.next.new.self.offset;
       few = omega (arith, c.loop-claim.invariant.4, c.in-Ok-Some.ensures.told);
       near = refused_near g.C.Checks.subject files name start reader checker on c.in-Ok-Some.claim c.in-Err.refused
-          (g.C.Checks.seen c.feed.new.self) c.next.new.self read.0 read.1.0 read.1.1 c.next.ensures.short
+          (g.C.Checks.seen c.feed.new.self) c.next.new.self read.0 read.1 read.2 c.next.ensures.short
           (c.in-Err.ensures.refused (unrefused g.C.Checks.subject files name start reader checker on));
     }
 
@@ -183,6 +184,8 @@ returns-in-Err-Text-clause-near g c =
     (g.F.Shelf.files c.loop-claim.shelf) c.loop-claim.invariant.1 c.in-Err-Text.ensures.gives) in
     wrong_near g.C.Checks.subject files name start reader checker on c.in-Err-Text.fault
     (g.F.Shelf.given c.args.shelf.now) (g.F.Shelf.given c.next.new.shelf + c.args.reader.now.offset)
-    c.next.new.self.offset known (c.in-Err-Text.ensures.near files name on.now on.at)
+    c.next.new.self.offset known
+    (subst (λ (fs : Files). StandsNear fs name reader c.next.new.self.offset) c.loop-claim.invariant.1
+    c.in-Err-Text.ensures.near on.now on.at)
     (λ place is. omega (arith, c.loop-claim.invariant.4, c.next.ensures.told_word place (c.in-Err-Text.is ∙ cc is)))
     (omega (arith, c.loop-claim.invariant.4, c.next.ensures.little))

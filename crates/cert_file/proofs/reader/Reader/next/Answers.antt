@@ -1,11 +1,12 @@
-use Rattle.std.proofs.Common.{◌++◌, Option, Ok, Err, Bool, sym, ap, subst, ◌∙◌, arith}
+use Rattle.std.proofs.Common.{◌++◌, Option, Ok, Err, Bool, refl, sym, ap, subst, ◌∙◌, arith}
 use Rattle.std.proofs.lemmas.Result.{err_from_is_err_and}
 use Rattle.fux_port.specs.Counts.{Rose}
 use Rattle.fux_port.specs.Files.{MayHave}
 use Rattle.fux_port.proofs.Rises.{rose_later}
 use Rattle.cert_text.specs.declared.claim.Claim.{Claim}
 use Rattle.cert_file.specs.Readings.{Files, IsAt, ReadsOn, TakesLine}
-use Rattle.cert_file.proofs.PieceLemmas.{fault_given, gives_at_end}
+use Rattle.cert_file.proofs.NearLemmas.{on_err}
+use Rattle.cert_file.proofs.PieceLemmas.{fault_given, gives_at_end, stands_near}
 use Rattle.cert_file.proofs.reader.Reader.next.Goals as goal
 
 pub returns-in-Ok-Some-clause-gives : goal.returns-in-Ok-Some-clause-gives
@@ -108,3 +109,60 @@ returns-in_err-read_on-clause-limit g c = omega (arith, c.loop-claim.invariant.3
 
 pub returns-then-not-branch-clause-limit : goal.returns-then-not-branch-clause-limit
 returns-then-not-branch-clause-limit g c = omega (arith, c.loop-claim.invariant.3, c.take_line.ensures.limit)
+
+-- ---- how much is read
+
+pub returns-in-Err-clause-near : goal.returns-in-Err-clause-near
+returns-in-Err-clause-near g c = λ front at.
+    c.take_line.ensures.near (g.F.Shelf.files c.args.shelf.now) c.args.name.now front
+    (c.loop-claim.invariant.0 front at)
+
+pub returns-then-not-branch-clause-near : goal.returns-then-not-branch-clause-near
+returns-then-not-branch-clause-near g c =
+    let files = g.F.Shelf.files c.args.shelf.now in
+    let name = c.args.name.now in
+    on_err c.end.result (λ front at.
+    let taken = subst (λ (o : Option Claim). TakesLine files name front c.take_line.new.self (Ok o))
+    c.in-Ok-None.field-0-is
+    (c.in-Ok-None.ensures.takes files name front (c.loop-claim.invariant.0 front at)) in
+    let same = c.loop-claim.invariant.1 in
+    let stands = subst (λ (fs : Files). IsAt fs name front c.take_line.new.self) (sym same) taken.0 in
+    let reads = subst
+    (λ (fs : Files). ReadsOn fs name (Rose (g.F.Shelf.faults c.loop-claim.shelf) (g.F.Shelf.faults c.read_on.new.shelf))
+    front
+    c.take_line.new.self.claims.begun c.read_on.new.self (Ok c.in_ok-read_on.field-0)) same
+    (c.in_ok-read_on.ensures.reads front stands taken.1) in
+    let over = subst
+    (λ (b : Bool). ReadsOn files name (Rose (g.F.Shelf.faults c.loop-claim.shelf)
+    (g.F.Shelf.faults c.read_on.new.shelf)) front
+    c.take_line.new.self.claims.begun c.read_on.new.self (Ok b)) c.if-not-branch.true reads in
+    stands_near c.read_on.new.self _ c.read_on.ensures.short refl files name front over.0)
+
+pub returns-in_err-read_on-clause-near : goal.returns-in_err-read_on-clause-near
+returns-in_err-read_on-clause-near g c =
+    let files = g.F.Shelf.files c.args.shelf.now in
+    let name = c.args.name.now in
+    on_err c.from_residual.result (λ front at.
+    let taken = subst (λ (o : Option Claim). TakesLine files name front c.take_line.new.self (Ok o))
+    c.in-Ok-None.field-0-is
+    (c.in-Ok-None.ensures.takes files name front (c.loop-claim.invariant.0 front at)) in
+    stands_near c.take_line.new.self _ c.take_line.ensures.short c.in_err-read_on.ensures.stays files name front taken.0)
+
+pub returns-in-Ok-Some-clause-told_word : goal.returns-in-Ok-Some-clause-told_word
+returns-in-Ok-Some-clause-told_word g c = λ place is.
+    omega (arith, c.loop-claim.invariant.5, c.take_line.ensures.offset)
+
+pub returns-in-Err-clause-told_word : goal.returns-in-Err-clause-told_word
+returns-in-Err-clause-told_word g c = λ place is.
+    omega (arith, c.loop-claim.invariant.5, c.take_line.ensures.offset)
+
+pub returns-then-not-branch-clause-told_word : goal.returns-then-not-branch-clause-told_word
+returns-then-not-branch-clause-told_word g c = λ place is.
+    omega (arith, c.loop-claim.invariant.5, c.take_line.ensures.offset, c.in_ok-read_on.ensures.told)
+
+pub returns-in_err-read_on-clause-told_word : goal.returns-in_err-read_on-clause-told_word
+returns-in_err-read_on-clause-told_word g c = λ place is.
+    let told = err_from_is_err_and c.from_residual.result c.from_residual.ensures.1 in
+    let made = told.1 in
+    let same = told.2 in
+    absurd (c.in_err-read_on.ensures.fault place cc)

@@ -1,7 +1,7 @@
-use Rattle.std.proofs.Common.{arith, length, ◌≤◌, sym, ap, subst, ◌∙◌}
+use Rattle.std.proofs.Common.{sym, ap, subst, ◌∙◌}
 use Rattle.fux_port.specs.Counts.{Rose}
-use Rattle.cert_file.specs.Readings.{IsAt, Reading, longest_piece}
-use Rattle.cert_file.proofs.PieceLemmas.{stands_near, placed, reads_on}
+use Rattle.cert_file.specs.Readings.{IsAt, Reading}
+use Rattle.cert_file.proofs.PieceLemmas.{placed, reads_on}
 use Rattle.cert_file.proofs.reader.Reader.read_on.Goals as goal
 
 pub returns-clause-reads : goal.returns-clause-reads

@@ -1,8 +1,7 @@
-use Rattle.std.proofs.Common.{arith, length, ◌≤◌, sym, ap, subst, ◌∙◌}
+use Rattle.std.proofs.Common.{sym, ap, subst, ◌∙◌}
 use Rattle.fux_port.specs.Counts.{Rose}
-use Rattle.cert_file.specs.Readings.{longest_piece}
 use Rattle.cert_file.specs.StatedReadings.{IsAtStated, ReadsStated, StatedReading}
-use Rattle.cert_file.proofs.StatedLemmas.{stands_near_stated, stated_on, stated_placed}
+use Rattle.cert_file.proofs.StatedLemmas.{stated_on, stated_placed}
 use Rattle.cert_file.proofs.stated_reader.StatedReader.read_on.Goals as goal
 
 pub returns-clause-reads : goal.returns-clause-reads
