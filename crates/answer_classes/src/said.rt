@@ -15,11 +15,11 @@ use std::alloc::Global;
 /// What is said of a file of a class.
 #[derive(Drop)]
 pub enum Said {
-    /// What differs from the lesson, where there is one, and the marks of its setting.
+    /// What differs from the lesson, where there is one, and the marks of the setting.
     Told(AnswerLines),
-    /// Why its text is refused.
+    /// Why the text of the file is refused.
     Refused(Unmarked),
-    /// It can't be read.
+    /// The file can't be read.
     Unread,
 }
 

@@ -20,11 +20,11 @@ pub struct ClassReport {
     pub text: String,
     /// How many exercises have a mark.
     pub marked: usize,
-    /// How many are refused.
+    /// How many exercises are refused.
     pub refused: usize,
 }
 
-/// 1 where there is a mark.
+/// One where an exercise has a mark, and none elsewhere.
 fn marked(marking: &Marking) -> usize
     ensures { result ≡ (if specs.has_mark marking.now then 1 else 0) }
 {
@@ -34,7 +34,7 @@ fn marked(marking: &Marking) -> usize
     }
 }
 
-/// 1 where the text is refused.
+/// One where the text of an exercise is refused, and none elsewhere.
 fn refused(marking: &Marking) -> usize
     ensures { result ≡ (if specs.is_refused marking.now then 1 else 0) }
 {

@@ -13,18 +13,18 @@ use std::alloc::Global;
 /// What was read of a file.
 #[derive(Drop)]
 pub enum Text {
-    /// It has more bytes than are read.
+    /// The file has more bytes than are read.
     TooLong,
-    /// All its bytes.
+    /// All bytes of the file.
     Bytes(Vec<u8>),
 }
 
 /// What `mark` says of a text.
 #[derive(Drop)]
 pub enum Marking {
-    /// The lines of the marks of its setting.
+    /// The lines of the marks of the setting.
     Marked(MarkLines),
-    /// Why it is refused.
+    /// Why the text is refused.
     Refused(Unmarked),
 }
 

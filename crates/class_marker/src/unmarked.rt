@@ -10,7 +10,7 @@ use std::fmt::Write;
 /// Why `mark` refuses a text.
 #[derive(Clone, Copy, Debug, PartialEq, Eq)]
 pub enum Unmarked {
-    /// It is no note text: its first fault, with the line and the byte of it where that stands,
+    /// The text is no note text: its first fault, with the line and the byte where that stands,
     /// counted from 1.
     Text {
         kind: TextKind,
