@@ -26,7 +26,7 @@ pub struct AnswerLines {
 }
 
 /// Whether the setting of an answer can be marked by a lesson.
-fn is_markable(lesson: &Exercise, answer: &Exercise) -> bool
+pub fn is_markable(lesson: &Exercise, answer: &Exercise) -> bool
     ensures { result ≡ words.is_markable lesson.now answer.now }
 {
     lesson.voices == answer.voices && lesson.bars == answer.bars

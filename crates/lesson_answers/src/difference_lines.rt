@@ -51,7 +51,7 @@ fn put_difference(out: &mut String, difference: Difference) -> Result<(), Memory
 }
 
 /// Appends the lines of differences.
-pub(crate) fn put_differences(out: &mut String, differences: &[Difference]) -> Result<(), Memory>
+pub fn put_differences(out: &mut String, differences: &[Difference]) -> Result<(), Memory>
     ensures { OnOk result (string_bytes out.new ≡ string_bytes out.old ++ difference_lines
         differences.now) }
 {
