@@ -1,2 +1,1 @@
-mod EntryLemmas
 pub mod PricedLemmas

@@ -13,10 +13,10 @@ use Rattle.toml.specs.Data.{Data, Members, no_members, member, get_member}
 use Rattle.penalty_sheet.specs.declared.fault.SheetFault.{SheetFault}
 use Rattle.penalty_sheet.specs.declared.fault.SheetFault.TheVariants.{TooLong, NotToml, UnknownKey, NotWhole, Weight, Memory}
 use Rattle.penalty_sheet.specs.declared.sheet.Sheet.{Sheet}
-use Rattle.penalty_sheet.specs.Sheets.{document_of, document_said, fault_or, first_fault, said_by, sheet_of, top_fault, unless_wrong, weights_said}
+use Rattle.penalty_sheet.specs.Sheets.{document_of, document_said, fault_or, first_fault, said_by, sheet_of, tables_said, top_fault, unless_wrong}
 use Rattle.cantus_prices.specs.declared.prices.PricedSheet.{PricedSheet}
 use Rattle.cantus_prices.specs.Prices.{no_prices}
-use Rattle.cantus_prices.specs.PricedSheets.{HasPricedFault, IsPricedSheetOf, SaysAsBefore, both_said, key_fault, priced_by, priced_of, priced_said, prices_said, unless_at_fault, with_no_prices}
+use Rattle.cantus_prices.specs.PricedSheets.{HasPricedFault, IsPricedSheetOf, SaysAsBefore, both_said, key_fault, priced_by, priced_of, priced_said, prices_said, with_no_prices}
 
 -- too many bytes
 pub long_sheet : (bytes : List ℕ) → 65536 < length bytes → priced_of bytes ≡ Err TooLong
@@ -76,7 +76,7 @@ same_faults (member key value rest) none =
     ∙ ap (λ f. fault_or (top_fault key value) f) (same_faults rest parts.0)
 
 with_none : (fault : Option SheetFault) (said : Result Sheet SheetFault)
-    → unless_at_fault fault (both_said (Ok no_prices) said) ≡ with_no_prices (unless_wrong fault said)
+    → unless_wrong fault (both_said (Ok no_prices) said) ≡ with_no_prices (unless_wrong fault said)
 with_none None (Ok sheet) = refl
 with_none None (Err fault) = refl
 with_none (Some fault) said = refl
@@ -85,12 +85,12 @@ with_none (Some fault) said = refl
 pub said_before : (top : Members) → get_member (codes "cantus") top ≡ None → priced_said top
     ≡ with_no_prices (document_said top)
 said_before top none =
-    ap (λ f. unless_at_fault f
-    (both_said (prices_said (get_member (codes "cantus") top)) (weights_said (get_member (codes "weights") top))))
+    ap (λ f. unless_wrong f
+    (both_said (prices_said (get_member (codes "cantus") top)) (tables_said top)))
     (same_faults top none)
-    ∙ ap (λ o. unless_at_fault (first_fault top_fault top)
-    (both_said (prices_said o) (weights_said (get_member (codes "weights") top)))) none
-    ∙ with_none (first_fault top_fault top) (weights_said (get_member (codes "weights") top))
+    ∙ ap (λ o. unless_wrong (first_fault top_fault top)
+    (both_said (prices_said o) (tables_said top))) none
+    ∙ with_none (first_fault top_fault top) (tables_said top)
 
 pub says_as_before : SaysAsBefore
 unfolding priced_of sheet_of

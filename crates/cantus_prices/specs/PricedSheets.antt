@@ -8,7 +8,7 @@ use Rattle.toml.specs.Data.{Data, string, integer, float, boolean, datetime, arr
 use Rattle.penalty_sheet.specs.declared.fault.SheetFault.{SheetFault}
 use Rattle.penalty_sheet.specs.declared.fault.SheetFault.TheVariants.{TooLong, NotToml, UnknownKey, NotWhole}
 use Rattle.penalty_sheet.specs.declared.sheet.Sheet.{Sheet}
-use Rattle.penalty_sheet.specs.Sheets.{document_of, first_fault, keys_ascend, number_fault, sheet_of, top_fault, weights_ascend, weights_said, whole_or}
+use Rattle.penalty_sheet.specs.Sheets.{AreTablesInOrder, IsRight, document_of, first_fault, keys_ascend, number_fault, sheet_of, tables_said, top_fault, unless_wrong, weights_ascend, whole_or}
 use Rattle.cantus_prices.specs.declared.prices.CantusPrices.{CantusPrices}
 use Rattle.cantus_prices.specs.declared.prices.PricedSheet.{PricedSheet}
 use Rattle.cantus_prices.specs.Prices.{no_prices}
@@ -31,7 +31,7 @@ is_price_key key = list_any (λ name. bytes_eq name key) price_keys
 abbrev pub price_fault : List ℕ → Data → Option SheetFault
 price_fault key value = if is_price_key key then number_fault key (as_integer value) else Some (UnknownKey key)
 
--- with an entry of the document: beside `weights`, `cantus` is a key
+-- with an entry of the document: beside those of a sheet of weights, `cantus` is a key
 abbrev pub key_fault : List ℕ → Data → Option SheetFault
 key_fault key value = if bytes_eq key (codes "cantus") then None else top_fault key value
 
@@ -45,15 +45,10 @@ price_in entries row = whole_or 0 (option_and_then as_integer (get_member (price
 unfoldable pub prices_in : Members → CantusPrices
 prices_in entries = record { weights = map (λ i. price_in entries (i + 1)) (range_with_len 0 6) }
 
--- what is said where nothing is wrong
-abbrev pub unless_at_fault : {A : Type 0} → Option SheetFault → Result A SheetFault → Result A SheetFault
-unless_at_fault None said = said
-unless_at_fault (Some fault) said = Err fault
-
 -- what the value of `cantus` says; where there is none, each price is 0
 abbrev pub prices_said : Option Data → Result CantusPrices SheetFault
 prices_said None = Ok no_prices
-prices_said (Some (table entries)) = unless_at_fault (first_fault price_fault entries) (Ok (prices_in entries))
+prices_said (Some (table entries)) = unless_wrong (first_fault price_fault entries) (Ok (prices_in entries))
 prices_said (Some (string text)) = Err (NotWhole (codes "cantus"))
 prices_said (Some (integer number)) = Err (NotWhole (codes "cantus"))
 prices_said (Some (float number)) = Err (NotWhole (codes "cantus"))
@@ -70,8 +65,8 @@ both_said (Ok prices) (Ok sheet) = Ok (record { sheet = sheet; prices = prices }
 -- what a document says
 abbrev pub priced_said : Members → Result PricedSheet SheetFault
 priced_said top =
-    unless_at_fault (first_fault key_fault top)
-    (both_said (prices_said (get_member (codes "cantus") top)) (weights_said (get_member (codes "weights") top)))
+    unless_wrong (first_fault key_fault top)
+    (both_said (prices_said (get_member (codes "cantus") top)) (tables_said top))
 
 -- what is said by a document, if there is one
 abbrev pub priced_by : Option Members → Result PricedSheet SheetFault
@@ -92,18 +87,13 @@ HasPricedFault bytes fault = priced_of bytes ≡ Err fault
 
 -- ---- in which order
 
--- nothing is wrong with prices
-abbrev pub AreRight : Result CantusPrices SheetFault → Type 0
-AreRight (Ok prices) = Unit {0}
-AreRight (Err fault) = ⊥
-
 -- the keys of a document stand in the order of their bytes, and so do those of its prices, and those
--- of its weights where nothing is wrong before them
+-- of its other tables where nothing is wrong before them
 pub record IsInPricedOrder (top : Members) : Type 0 where
   pub keys : keys_ascend top ≡ true
   pub prices : first_fault key_fault top ≡ None → weights_ascend (get_member (codes "cantus") top) ≡ true
-  pub weights : first_fault key_fault top ≡ None → AreRight (prices_said (get_member (codes "cantus") top))
-      → weights_ascend (get_member (codes "weights") top) ≡ true
+  pub tables : first_fault key_fault top ≡ None → IsRight (prices_said (get_member (codes "cantus") top))
+      → AreTablesInOrder top
 
 -- the document that bytes are, where they aren't too many for a sheet, stands in order
 abbrev pub AreInPricedOrder : List ℕ → Type 0

@@ -77,7 +77,7 @@ pub fn check_prices(alloc: Global, table: &Table) -> Result<(), SheetFault>
     Ok(())
 }
 
-/// Refuses a document for its first key that is neither `cantus` nor `weights`.
+/// Refuses a document for its first key that is none of `cantus`, `more` and `weights`.
 pub fn check_keys(alloc: Global, document: &Table) -> Result<(), SheetFault>
     ensures ok { OnOk result (first_fault key_fault (table_view document.now) ≡ None) }
     ensures ordered { keys_ascend (table_view document.now) ≡ true }
@@ -85,7 +85,7 @@ pub fn check_keys(alloc: Global, document: &Table) -> Result<(), SheetFault>
         first_fault key_fault (table_view document.now) ≡ Some fault) }
 {
     for (key, _value) in document.iter() {
-        if key.as_str() != "cantus" && key.as_str() != "weights" {
+        if key.as_str() != "cantus" && key.as_str() != "more" && key.as_str() != "weights" {
             let key = label(alloc, key.as_str())?;
             return Err(SheetFault::UnknownKey { key });
         }

@@ -3,12 +3,12 @@
 ghost use Rattle.std.specs.Prelude.{◌≡◌, ◌≢◌, true, IfErr, IfOk, None, Some, Err, Ok, codes, option_map};
 ghost use Rattle.toml.specs.Data.{get_member};
 ghost use Rattle.toml.specs.View.{table_view, view};
-ghost use Rattle.penalty_sheet.specs.Sheets.{weights_ascend, weights_said};
+ghost use Rattle.penalty_sheet.specs.Sheets.{weights_ascend};
 ghost use Rattle.cantus_prices.specs.PricedSheets.{AreInPricedOrder, HasPricedFault, IsInPricedOrder, IsPricedSheetOf, priced_said, prices_said};
 
 use crate::entries::{check_keys, check_prices, prices_in};
 use crate::prices::{CantusPrices, PricedSheet, no_prices};
-use penalty_sheet::{Sheet, SheetFault, default_sheet, document, label, weights_sheet};
+use penalty_sheet::{SheetFault, document, label, tables_sheet};
 use std::alloc::Global;
 use toml::{Table, Value};
 
@@ -57,21 +57,6 @@ fn document_prices(alloc: Global, document: &Table) -> Result<CantusPrices, Shee
     }
 }
 
-/// The weights that a document has.
-fn document_weights(alloc: Global, document: &Table) -> Result<Sheet, SheetFault>
-    ensures ok { IfOk result (λ sheet. weights_said (get_member (codes "weights")
-        (table_view document.now)) ≡ Ok sheet) }
-    ensures fault { IfErr result (λ fault. fault ≢ SheetFault.Memory →
-        weights_said (get_member (codes "weights") (table_view document.now)) ≡ Err fault) }
-    ensures ordered { result ≢ Err SheetFault.Memory →
-        weights_ascend (get_member (codes "weights") (table_view document.now)) ≡ true }
-{
-    match value_at(document, "weights") {
-        None => Ok(default_sheet()),
-        Some(value) => weights_sheet(alloc, value),
-    }
-}
-
 /// The sheet with prices that a document is.
 fn priced_document(alloc: Global, document: &Table) -> Result<PricedSheet, SheetFault>
     ensures ok { IfOk result (λ priced. priced_said (table_view document.now) ≡ Ok priced) }
@@ -81,14 +66,14 @@ fn priced_document(alloc: Global, document: &Table) -> Result<PricedSheet, Sheet
 {
     check_keys(alloc, document)?;
     let prices = document_prices(alloc, document)?;
-    let sheet = document_weights(alloc, document)?;
+    let sheet = tables_sheet(alloc, document)?;
     Ok(PricedSheet { sheet, prices })
 }
 
 /// Reads a sheet that may have prices: a TOML document of at most 65,536 bytes whose keys are among
-/// `cantus` and `weights`. The value of `weights` is what `penalty_sheet` reads; that of `cantus`
-/// is a table with whole numbers from 0 to 10,000 for some of `C1` to `C6`. A price that is left
-/// out is 0.
+/// `cantus`, `more` and `weights`. The values of `more` and `weights` are what `penalty_sheet`
+/// reads; that of `cantus` is a table with whole numbers from 0 to 10,000 for some of `C1` to `C6`.
+/// A price that is left out is 0.
 pub fn read_prices(alloc: Global, bytes: &[u8]) -> Result<PricedSheet, SheetFault>
     ensures ok { IfOk result (IsPricedSheetOf bytes.now) }
     ensures fault { IfErr result (λ fault. fault ≢ SheetFault.Memory → HasPricedFault bytes.now

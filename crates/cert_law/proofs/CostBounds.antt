@@ -4,7 +4,7 @@
 use Rattle.std.proofs.Common.{◌≡◌, ℕ, zero, suc, ◌+◌, ◌*◌, ◌≤◌, Bool, true, false, List, [], ◌∷◌, Option, Some, None, length, refl, subst, arith, if◌then◌else◌}
 use Rattle.std.specs.Prelude.{◌-◌, ◌++◌, ◌&&◌, ◌==◌, map, nat_lt, slice_index_or}
 use Rattle.std.specs.Int.{from_bool}
-use Rattle.std.specs.List.{AllByRecursion, list_any, range_with_len, sum_by}
+use Rattle.std.specs.List.{AllByRecursion, list_any, sum_by}
 use Rattle.std.proofs.lemmas.List.Sums.{count_by-le-length, sum_by-le}
 use Rattle.cert_text.specs.declared.potential.Potential.{Potential}
 use Rattle.cert_text.specs.Potentials.{IsPotential}
@@ -17,7 +17,6 @@ use Rattle.dissonance_rules.specs.Book as dissonance
 use Rattle.doubling_rules.specs.Book as doubling
 use Rattle.doubling_rules.specs.Rows as doubling_rows
 use Rattle.floor_tables.specs.Floors.{chains_of, rest_of}
-use Rattle.fux_grid.proofs.Pools.{length-filter_le}
 use Rattle.fux_grid.specs.declared.cell.Cell.{Cell}
 use Rattle.fux_grid.specs.declared.exercise.Exercise.{Exercise}
 use Rattle.fux_grid.specs.Cells.{cell_in}
@@ -25,14 +24,15 @@ use Rattle.fux_grid.specs.Columns.{line}
 use Rattle.fux_grid.specs.Exercises.{IsValid, columns_in}
 use Rattle.fux_grid.specs.Menus.{menu_of}
 use Rattle.fux_judge.specs.Links.{behind_of, breaks_strictly, cost_between, is_of_neighbors, link_of}
-use Rattle.fux_judge.specs.Rules.{all_rules, rules_read, toll_at, tolls_read}
+use Rattle.fux_judge.specs.Rules.{rules_read, toll_at, tolls_read}
 use Rattle.melody_rules.specs.Book as melody
 use Rattle.melody_rules.specs.Rows as melody_rows
 use Rattle.motion_rules.specs.Book as motion
 use Rattle.motion_rules.specs.Runs.{ends_four_bars}
 use Rattle.penalty_sheet.specs.declared.sheet.Sheet.{Sheet}
-use Rattle.penalty_sheet.specs.Weights.{greatest_toll, weight_of}
+use Rattle.penalty_sheet.specs.Weights.{weight_of}
 use Rattle.rhythm_cadence.specs.Book as rhythm
+use Rattle.rhythm_cadence.specs.Inflections.{inflection_toll, is_inflected}
 use Rattle.rhythm_cadence.specs.Patterns.{is_pattern, lacks_ligature, missing_ligatures, pattern_toll}
 use Rattle.rule_law.specs.Nearby.{pitch_at, previous_pitches, whole_of}
 use Rattle.rule_law.specs.Pairs.{count_pairs}
@@ -104,12 +104,14 @@ dissonance_low n ex i behind now ahead =
     pick_low (n == 1) _ _ (one_low _) (pick_low _ 0 _ none_low (pairs_low _))
 
 rhythm_low : (n : ℕ) → IsLowToll (rhythm.toll_row n)
-unfolding missing_ligatures pattern_toll
+unfolding missing_ligatures pattern_toll inflection_toll
 rhythm_low n =
     either_toll (rhythm.is_late_toll n) (rhythm.late_toll n) no_toll
-    (either_toll (n == 15) rhythm.ligature_row rhythm.pattern_row
+    (either_toll (n == 15) rhythm.ligature_row _
     (λ ex i behind now ahead. free_low ex (λ v. nat_lt v ex.voices && lacks_ligature ex i now v))
-    (λ ex i behind now ahead. free_low ex (λ v. nat_lt v ex.voices && is_pattern v ex i behind now ahead)))
+    (either_toll (n == 21) rhythm.inflection_row rhythm.pattern_row
+    (λ ex i behind now ahead. free_low ex (λ v. nat_lt v ex.voices && is_inflected v behind now))
+    (λ ex i behind now ahead. free_low ex (λ v. nat_lt v ex.voices && is_pattern v ex i behind now ahead))))
     (λ ex i behind now ahead. none_low)
 
 doubling_low : (n : ℕ) → IsLowToll (doubling.toll_row n)
@@ -137,9 +139,9 @@ between_low : (ex : Exercise) (i : ℕ) (before : Option (List Cell)) (next : Li
 between_low ex i before next toll =
     pick_low (is_of_neighbors (toll_at toll).kind) _ 0 (toll_low toll ex i (behind_of before) next []) none_low
 
-tolls_few : length tolls_read ≤ greatest_toll
+tolls_few : length tolls_read ≤ 20
 unfolding tolls_read
-tolls_few = length-filter_le all_rules.has_toll (range_with_len 1 greatest_toll)
+tolls_few = let count : length tolls_read ≡ 17 = refl in omega (arith, count)
 
 module _ (ex : Exercise) (sheet : Sheet) (small : HasSmallWeights sheet) where
   charge_low : (i : ℕ) (before : Option (List Cell)) (next : List Cell) (toll : ℕ)

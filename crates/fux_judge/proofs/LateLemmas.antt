@@ -1,5 +1,5 @@
--- What is read at the places of a late rule.
-use Rattle.std.proofs.Common.{◌≡◌, ℕ, ◌+◌, ◌-◌, ◌<◌, ◌≤◌, ◌==◌, ◌||◌, zero, suc, Bool, true, false, List, [], ◌∷◌, length, refl, ap, sym, ◌∙◌, arith}
+-- What is read at the places of a late rule, and of a late toll.
+use Rattle.std.proofs.Common.{◌≡◌, ℕ, ◌+◌, ◌-◌, ◌*◌, ◌<◌, ◌≤◌, ◌==◌, ◌||◌, zero, suc, Bool, true, false, List, [], ◌∷◌, ◌++◌, length, refl, ap, sym, ◌∙◌, arith}
 use Rattle.std.specs.Prelude.{if◌then◌else◌}
 use Rattle.std.specs.List.{list_all, list_any, sum_by}
 use Rattle.std.proofs.lemmas.List.{length-append}
@@ -7,16 +7,18 @@ use Rattle.fux_grid.specs.declared.cell.Cell.{Cell}
 use Rattle.fux_grid.specs.declared.exercise.Exercise.{Exercise}
 use Rattle.std.proofs.lemmas.Bool.{eqb-true, or_left, or_right}
 use Rattle.std.proofs.lemmas.Bool.Decides.{nat_tests}
-use Rattle.rule_law.specs.Growth.{any_below, sum_by-none}
+use Rattle.rule_law.specs.Growth.{any_below, newly, sum_by-none}
 use Rattle.rule_law.specs.Law.{first_true, second_true}
 use Rattle.rule_law.specs.Prefixes.{GoesOn}
 use Rattle.rule_law.specs.Rulebooks.{IsAmong, newly_breaks}
+use Rattle.penalty_sheet.specs.declared.sheet.Sheet.{Sheet}
+use Rattle.penalty_sheet.specs.Weights.{weight_of}
 use Rattle.fux_judge.specs.declared.state.State.{State}
 use Rattle.fux_judge.proofs.Facts.{rule_keeps}
-use Rattle.fux_judge.specs.Penalties.{is_strict_at, new_price, newly_broken_at}
-use Rattle.fux_judge.specs.Rules.{all_rules, is_late, late_rules, late_tolls, rule_at, rules_read, toll_at, tolls_read}
+use Rattle.fux_judge.specs.Penalties.{is_strict_at, new_price, new_toll, newly_broken_at}
+use Rattle.fux_judge.specs.Rules.{all_rules, cost_at, is_cost_settled, is_late, late_rules, late_tolls, rule_at, rules_read, toll_at, tolls_read}
 use Rattle.fux_judge.specs.States.{HasCome}
-use Rattle.fux_judge.specs.Steps.{any_among, breaks_late, prices_late, sets_of_rule}
+use Rattle.fux_judge.specs.Steps.{any_among, breaks_late, prices_late, sets_of_rule, toll_late}
 use Rattle.fux_judge.proofs.StepPlaces.{any_among-alone, zero_below}
 use Rattle.fux_judge.proofs.SetLemmas.{priceless}
 
@@ -159,7 +161,23 @@ any_asked test = alike (list_any test all_rules.late_rules) (list_any test late_
     alike false true f g = g refl
     alike false false f g = refl
 
+-- a column settles nothing of a toll that weighs nothing
+pub weightless : (ex : Exercise) (sheet : Sheet) (p : List (List Cell)) (col : List Cell) (toll : ℕ)
+    → weight_of sheet toll ≡ 0 → toll_late ex sheet p col toll ≡ 0
+weightless ex sheet p col toll e =
+    zero_below (λ k. new_toll ex sheet p col ((toll_at toll).first ex (length p) + k) toll)
+    ((toll_at toll).count ex (length p))
+    (λ k h. free (newly (is_cost_settled toll ex) p col ((toll_at toll).first ex (length p) + k))
+    (cost_at toll ex (p ++ col ∷ []) ((toll_at toll).first ex (length p) + k)))
+  where
+    none : (n : ℕ) → n * 0 ≡ 0
+    none n = omega arith
+
+    free : (b : Bool) (n : ℕ) → (if b then n * weight_of sheet toll else 0) ≡ 0
+    free true n = ap (λ w. n * w) e ∙ none n
+    free false n = refl
+
 -- the late tolls
-pub tolls_are : late_tolls ≡ 3 ∷ 4 ∷ 5 ∷ 6 ∷ 12 ∷ 14 ∷ 15 ∷ 16 ∷ []
+pub tolls_are : late_tolls ≡ 3 ∷ 4 ∷ 5 ∷ 6 ∷ 12 ∷ 14 ∷ 15 ∷ 16 ∷ 21 ∷ []
 unfolding late_tolls tolls_read toll_at
 tolls_are = refl

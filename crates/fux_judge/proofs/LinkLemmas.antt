@@ -345,7 +345,7 @@ module _ (toll : ℕ) (between : is_toll_between toll ≡ true) where
           ∙ subst P (eqb-true toll n e) between in cc
       at false e = refl
 
-  -- so it isn't Q16, and is settled at its own column; nor is it Q14
+  -- so it isn't Q16, and is settled at its own column; nor is it Q14 or Q21
   not_pattern : (toll == 16) ≡ false
   unfolding toll_at
   not_pattern = not_window 16 refl
@@ -353,6 +353,10 @@ module _ (toll : ℕ) (between : is_toll_between toll ≡ true) where
   not_run : (toll == 14) ≡ false
   unfolding toll_at
   not_run = not_window 14 refl
+
+  not_inflection : (toll == 21) ≡ false
+  unfolding toll_at
+  not_inflection = not_window 21 refl
 
   pub toll_settled_soon : (ex : Exercise) (i : ℕ) (behind : List (List Cell)) (now : List Cell)
       (ahead : List (List Cell)) → cost_enough toll ex i behind now ahead ≡ true
@@ -394,9 +398,10 @@ module _ (toll : ℕ) (between : is_toll_between toll ≡ true) where
     dissonance_toll its = of_toll (toll_by (Some Dissonance) toll) (toll_of_crate toll (Some Dissonance) its)
 
     -- Q15, and no other
-    rhythm_choice : Bool → Bool → TollRow
-    rhythm_choice ligature pattern =
-        if ligature || pattern then (if ligature then rhythm_book.ligature_row else rhythm_book.pattern_row)
+    rhythm_choice : Bool → Bool → Bool → TollRow
+    rhythm_choice ligature pattern inflection =
+        if ligature || pattern || inflection then (if ligature then rhythm_book.ligature_row
+        else (if inflection then rhythm_book.inflection_row else rhythm_book.pattern_row))
         else no_toll
 
     pub ligature_toll_row : crate_with_toll toll ≡ Some Rhythm → (toll == 15) ≡ true → costs toll ex
@@ -404,15 +409,16 @@ module _ (toll : ℕ) (between : is_toll_between toll ≡ true) where
     unfolding rhythm_choice
     ligature_toll_row its is =
         of_toll rhythm_book.ligature_row (toll_of_crate toll (Some Rhythm) its
-        ∙ ap (λ b. rhythm_choice b (toll == 16)) is)
+        ∙ ap (λ b. rhythm_choice b (toll == 16) (toll == 21)) is)
 
     pub other_rhythm_toll : crate_with_toll toll ≡ Some Rhythm → (toll == 15) ≡ false → costs toll ex
         ≡ whole_of (λ i before previous now. 0)
     unfolding rhythm_choice
     other_rhythm_toll its other =
         of_toll no_toll
-        (toll_of_crate toll (Some Rhythm) its ∙ ap (λ b. rhythm_choice b (toll == 16)) other
-        ∙ ap (rhythm_choice false) not_pattern)
+        (toll_of_crate toll (Some Rhythm) its ∙ ap (λ b. rhythm_choice b (toll == 16) (toll == 21)) other
+        ∙ ap (λ b. rhythm_choice false b (toll == 21)) not_pattern
+        ∙ ap (rhythm_choice false false) not_inflection)
 
     pub doubling_toll : crate_with_toll toll ≡ Some Doubling → costs toll ex
         ≡ whole_of (doubling.doubling_tolls toll ex)

@@ -89,12 +89,14 @@ module _ (toll : ℕ) (other : (toll == 16) ≡ false) (ex : Exercise) (i : ℕ)
   of_motion false true = refl
   of_motion false false = refl
 
-  of_rhythm : (a b : Bool) → b ≡ false → (if a || b
-      then (if a then rhythm_book.ligature_row else rhythm_book.pattern_row) else no_toll).enough ex i behind now ahead
-      ≡ true
-  of_rhythm a true e = cc
-  of_rhythm true false e = refl
-  of_rhythm false false e = refl
+  of_rhythm : (a b c : Bool) → b ≡ false → (if a || b || c
+      then (if a then rhythm_book.ligature_row
+      else (if c then rhythm_book.inflection_row else rhythm_book.pattern_row))
+      else no_toll).enough ex i behind now ahead ≡ true
+  of_rhythm a true c e = cc
+  of_rhythm true false c e = refl
+  of_rhythm false false true e = refl
+  of_rhythm false false false e = refl
 
   pub cost_settled_soon : cost_enough toll ex i behind now ahead ≡ true
   unfolding toll_at
@@ -109,6 +111,6 @@ module _ (toll : ℕ) (other : (toll == 16) ≡ false) (ex : Exercise) (i : ℕ)
       at true b c d e = refl
       at false true c d e = of_motion (toll == 12) (toll == 14)
       at false false true d e = refl
-      at false false false true e = of_rhythm (toll == 15) (toll == 16) other
+      at false false false true e = of_rhythm (toll == 15) (toll == 16) (toll == 21) other
       at false false false false true = refl
       at false false false false false = refl

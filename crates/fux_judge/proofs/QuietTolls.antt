@@ -1,5 +1,5 @@
 -- Behind an orderly prefix a quiet column settles no late toll but Q16 (`pattern_alone`).
-use Rattle.std.proofs.Common.{◌≡◌, ◌<◌, ◌≤◌, ◌+◌, ◌*◌, ◌&&◌, ℕ, Bool, true, false, if◌then◌else◌, List, [], ◌∷◌, ◌++◌, length, refl, ap, sym, ◌∙◌, arith}
+use Rattle.std.proofs.Common.{◌≡◌, ◌<◌, ◌≤◌, ◌+◌, ◌*◌, ◌&&◌, ℕ, Bool, true, false, if◌then◌else◌, List, [], ◌∷◌, ◌++◌, length, reverse, refl, ap, sym, ◌∙◌, arith}
 use Rattle.std.specs.Prelude.{nat_le}
 use Rattle.std.specs.List.{sum_by}
 use Rattle.std.proofs.lemmas.Bool.{and_right}
@@ -8,9 +8,13 @@ use Rattle.fux_grid.specs.declared.exercise.Exercise.{Exercise}
 use Rattle.fux_grid.specs.Exercises.{bar_of}
 use Rattle.rule_law.specs.Bars.{begins_bar, begins_inner_bar}
 use Rattle.rule_law.specs.Growth.{newly}
+use Rattle.rule_law.specs.Law.{reading-at_end}
+use Rattle.rule_law.specs.Places.{reading_of}
 use Rattle.rule_law.specs.Prefixes.{GoesOn}
 use Rattle.rule_law.specs.Quiet.{is_quiet, quiet_inner, quiet_slot}
 use Rattle.motion_rules.specs.Runs.{ends_four_bars}
+use Rattle.rhythm_cadence.specs.Inflections.{inflection_toll}
+use Rattle.rhythm_cadence.proofs.Quiet.{none_inflected}
 use Rattle.penalty_sheet.specs.declared.sheet.Sheet.{Sheet}
 use Rattle.penalty_sheet.specs.Weights.{weight_of}
 use Rattle.fux_judge.specs.Links.{is_toll_between, last_column}
@@ -23,6 +27,13 @@ use Rattle.fux_judge.proofs.LinkPaid.{orderly_prefix, read_near}
 use Rattle.fux_judge.proofs.QuietLinks.{free}
 use Rattle.fux_judge.proofs.StepPlaces.{zero_below}
 
+nothing : (b : Bool) (n w : ℕ) → n ≡ 0 → (if b then n * w else 0) ≡ 0
+nothing true n w e = ap (λ m. m * w) e ∙ none w
+  where
+    none : (w : ℕ) → 0 * w ≡ 0
+    none w = omega arith
+nothing false n w e = refl
+
 module _ (ex : Exercise) (there : ex.cantus_voice < ex.voices) (sheet : Sheet) (p : List (List Cell)) (col : List Cell)
     (on : GoesOn ex p (col ∷ [])) (quiet : is_quiet (length p) col ≡ true) where
   -- a toll of neighbors costs nothing at the column
@@ -33,13 +44,6 @@ module _ (ex : Exercise) (there : ex.cantus_voice < ex.voices) (sheet : Sheet) (
       ∙ free ex (length p) (last_column p) col quiet toll between in
       nothing (newly (is_cost_settled toll ex) p col (length p)) (cost_at toll ex (p ++ col ∷ []) (length p))
       (weight_of sheet toll) costless
-    where
-      nothing : (b : Bool) (n w : ℕ) → n ≡ 0 → (if b then n * w else 0) ≡ 0
-      nothing true n w e = ap (λ m. m * w) e ∙ none w
-        where
-          none : (w : ℕ) → 0 * w ≡ 0
-          none w = omega arith
-      nothing false n w e = refl
 
   -- so it settles nothing of it, where the column itself is its only place
   none_of_own : (toll count : ℕ) → is_toll_between toll ≡ true → count ≤ 1
@@ -102,6 +106,22 @@ module _ (ex : Exercise) (there : ex.cantus_voice < ex.voices) (sheet : Sheet) (
   ligatures = none_of_none 15 _ (length p)
       (no_bar (begins_inner_bar ex (length p)) (quiet_inner ex (length p) col quiet))
 
+  inflections : toll_late ex sheet p col 21 ≡ 0
+  unfolding toll_at
+  inflections =
+      zero_below (λ k. new_toll ex sheet p col (length p + k) 21) 1
+      (λ k h. ap (λ n. new_toll ex sheet p col n 21) (here k h) ∙ still)
+    where
+      here : (k : ℕ) → k < 1 → length p + k ≡ length p
+      here k h = omega (arith, h)
+
+      costless : reading_of (inflection_toll ex) (p ++ col ∷ []) (length p) ≡ 0
+      costless = reading-at_end (inflection_toll ex) p col ∙ none_inflected ex (length p) (reverse p) col [] quiet
+
+      still : new_toll ex sheet p col (length p) 21 ≡ 0
+      still = nothing (newly (is_cost_settled 21 ex) p col (length p))
+          (reading_of (inflection_toll ex) (p ++ col ∷ []) (length p)) (weight_of sheet 21) costless
+
   pub pattern_alone : toll_late ex sheet p col 16 ≡ sum_by (toll_late ex sheet p col) late_tolls
   pattern_alone =
       omega (
@@ -114,4 +134,5 @@ module _ (ex : Exercise) (there : ex.cantus_voice < ex.voices) (sheet : Sheet) (
         inner,
         runs,
         ligatures,
+        inflections,
       )

@@ -95,9 +95,26 @@ fn charges_of(toll: u8, sheet: &Sheet, ex: &Exercise, next: &State) -> u64
     sum
 }
 
+/// The same of a toll that may weigh nothing, which then isn't asked.
+#[inline(always)]
+fn weighed_charges_of(toll: u8, sheet: &Sheet, ex: &Exercise, next: &State) -> u64
+    requires number { IsTrue (nat_le 1 toll && (nat_le toll greatest_toll && is_late_toll toll)) }
+    requires valid { IsValid ex.now }
+    requires begun { 0 < next.now.newest.len }
+    requires room { next.now.newest.len ≤ columns_in ex.now }
+    ensures value { TellsOfNewest ex.now next.now (λ p col. steps.toll_late ex.now sheet.now p col
+        toll) result }
+    ensures bound { result ≤ 9437040 }
+{
+    if weight(sheet, toll) == 0 {
+        return 0;
+    }
+    charges_of(toll, sheet, ex, next)
+}
+
 /// What the newest column settles of all late tolls. Each is asked by its own number, so that what
 /// depends on the number alone is settled before the program runs. Where neither a bar nor a note
-/// begins, Q16 alone may cost something.
+/// begins, Q16 alone may cost something. Q21 weighs nothing by the usual sheet.
 #[tactic(auto, unfolding(crate::specs::Rules::toll_at))]
 pub(crate) fn late_charges(sheet: &Sheet, ex: &Exercise, next: &State) -> u64
     requires valid { IsValid ex.now }
@@ -119,4 +136,5 @@ pub(crate) fn late_charges(sheet: &Sheet, ex: &Exercise, next: &State) -> u64
         + charges_of(14, sheet, ex, next)
         + charges_of(15, sheet, ex, next)
         + charges_of(16, sheet, ex, next)
+        + weighed_charges_of(21, sheet, ex, next)
 }

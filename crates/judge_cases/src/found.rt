@@ -129,7 +129,7 @@ pub fn add_found(
             add_breaks(text, rule.parse::<u8>()?, ex, score, from)?;
         } else if let Some(number) = word.strip_prefix('Q') {
             let number = number.parse::<u8>()?;
-            if number > 16 {
+            if number > 16 && number < 21 {
                 add_values(text, number, ex, score)?;
             } else {
                 add_costs(text, number, ex, score, from)?;

@@ -401,6 +401,49 @@ D4:24
 D5:8 D5:8 D5:8
 =
 
+Q21
+dorian 1 1 0
+cantus D4 D4 D4 D4 D4 D4
+D4:8 D4:8 D4:8 D4:8 D4:8 D4:8
+A4:8 Bb4:8 A4:8 B4:8 G4:8 A4:8
+=
+Q21 24 1
+
+Q21
+dorian 1 1 0
+cantus D4 D4 D4 D4 D4 D4
+D4:8 D4:8 D4:8 D4:8 D4:8 D4:8
+A4:8 Bb4:8 A4:8 G4:8 B4:8 Bb5:8
+=
+Q21 40 1
+
+Q21
+dorian 2 1 0
+cantus D4 D4 D4 D4
+D4:8 D4:8 D4:8 D4:8
+Bb4:5 A4:16 B4:4 C5:7
+=
+
+Q21
+dorian 2 1 0
+cantus D4 D4 D4 D4
+D4:8 D4:8 D4:8 D4:8
+Bb4:5 A4:15 B4:4 C5:8
+=
+Q21 20 1
+
+Q21
+dorian 1 1 0
+cantus Bb3 B3 D4
+Bb3:8 B3:8 D4:8
+Bb4:4 B4:4 Bb4:4 B4:4 B4:8
+C5:8 C5:8 C#5:8
+=
+Q21 4 1
+Q21 8 1
+Q21 12 1
+Q21 16 2
+
 Q17 Q18 Q19 Q20
 dorian 1 1 0
 cantus D4 D4 D4 D4 D4 D4 D4 D4 D4 D4 D4

@@ -24,7 +24,7 @@ short_sheet bytes h =
     ap (λ b. if b then Err TooLong else said_by (document_of bytes)) test
 
 -- a document without weights
-pub default_sheet_in : sheet_in no_members ≡ record { weights = default_weights }
+pub default_sheet_in : sheet_in no_members 0 ≡ record { weights = default_weights }
 unfolding sheet_in
 default_sheet_in = refl
 

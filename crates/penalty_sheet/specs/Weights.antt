@@ -4,12 +4,12 @@ use Rattle.penalty_sheet.specs.declared.sheet.Sheet.{Sheet}
 
 -- the tolls are numbered from 1 to this number
 abbrev pub greatest_toll : ℕ
-greatest_toll = 20
+greatest_toll = 21
 
 -- the weight of a toll
 abbrev pub weight_of : Sheet → ℕ → ℕ
 weight_of sheet toll = slice_index sheet.weights (toll - 1)
 
--- the weights of Q1 to Q20 where none is given
+-- the weights of Q1 to Q21 where none is given
 abbrev pub default_weights : List ℕ
-default_weights = 2 ∷ 3 ∷ 4 ∷ 2 ∷ 2 ∷ 1 ∷ 3 ∷ 1 ∷ 2 ∷ 5 ∷ 2 ∷ 4 ∷ 3 ∷ 4 ∷ 4 ∷ 5 ∷ 4 ∷ 3 ∷ 2 ∷ 3 ∷ []
+default_weights = 2 ∷ 3 ∷ 4 ∷ 2 ∷ 2 ∷ 1 ∷ 3 ∷ 1 ∷ 2 ∷ 5 ∷ 2 ∷ 4 ∷ 3 ∷ 4 ∷ 4 ∷ 5 ∷ 4 ∷ 3 ∷ 2 ∷ 3 ∷ 0 ∷ []

@@ -4,8 +4,7 @@ ghost use Rattle.std.specs.Prelude.{◌≡◌, true, ◌≢◌, ◌≤◌, ◌�
 ghost use Rattle.std.specs.Option.{option_and_then};
 ghost use Rattle.toml.specs.Data.{as_integer, get_member};
 ghost use Rattle.toml.specs.View.{view, table_view};
-ghost use Rattle.penalty_sheet.specs.Sheets.{entry_fault, first_fault, is_toll_key, keys_ascend, sheet_in, toll_key, top_fault, weight_in};
-ghost use Rattle.penalty_sheet.specs.Weights.{greatest_toll};
+ghost use Rattle.penalty_sheet.specs.Sheets.{entry_fault, first_fault, is_toll_key, keys_ascend, more_fault, more_in, number_fault, sheet_in, toll_key, top_fault, weight_in};
 
 use crate::fault::SheetFault;
 use crate::sheet::{GREATEST_TOLL, Sheet, default_sheet};
@@ -13,10 +12,13 @@ use fux_pitch::Label;
 use std::alloc::Global;
 use toml::{Table, Value};
 
+/// The greatest number of a toll that the table of weights may have.
+const LAST_WEIGHT: u8 = 20;
+
 /// The key of a toll: `Q1` to `Q20`.
 fn toll_key(toll: u8) -> &'static str
     requires first { 1 ≤ toll }
-    requires last { toll ≤ greatest_toll }
+    requires last { toll ≤ 20 }
     ensures { result.now ≡ toll_key toll }
 {
     match toll {
@@ -43,11 +45,11 @@ fn toll_key(toll: u8) -> &'static str
     }
 }
 
-/// Whether a key is that of a toll.
+/// Whether a key is one of these.
 fn is_toll_key(key: &str) -> bool
     ensures { result ≡ is_toll_key key.now }
 {
-    for toll in 1..GREATEST_TOLL + 1 {
+    for toll in 1..LAST_WEIGHT + 1 {
         if toll_key(toll) == key {
             return true;
         }
@@ -63,16 +65,12 @@ pub fn label(alloc: Global, key: &str) -> Result<Label, SheetFault>
     Ok(Label::new(String::from_str(alloc, key)?))
 }
 
-/// Refuses an entry of the table of weights that is at fault.
-fn check_weight(alloc: Global, key: &str, value: &Value) -> Result<(), SheetFault>
-    ensures ok { OnOk result (entry_fault key.now (view value.now) ≡ None) }
+/// Refuses a value that is no weight.
+fn check_number(alloc: Global, key: &str, value: &Value) -> Result<(), SheetFault>
+    ensures ok { OnOk result (number_fault key.now (as_integer (view value.now)) ≡ None) }
     ensures fault { IfErr result (λ fault. fault ≢ SheetFault.Memory →
-        entry_fault key.now (view value.now) ≡ Some fault) }
+        number_fault key.now (as_integer (view value.now)) ≡ Some fault) }
 {
-    if !is_toll_key(key) {
-        let key = label(alloc, key)?;
-        return Err(SheetFault::UnknownKey { key });
-    }
     match value.as_integer() {
         None => {
             let key = label(alloc, key)?;
@@ -84,6 +82,19 @@ fn check_weight(alloc: Global, key: &str, value: &Value) -> Result<(), SheetFaul
         }
         Some(_) => Ok(()),
     }
+}
+
+/// Refuses an entry of the table of weights that is at fault.
+fn check_weight(alloc: Global, key: &str, value: &Value) -> Result<(), SheetFault>
+    ensures ok { OnOk result (entry_fault key.now (view value.now) ≡ None) }
+    ensures fault { IfErr result (λ fault. fault ≢ SheetFault.Memory →
+        entry_fault key.now (view value.now) ≡ Some fault) }
+{
+    if !is_toll_key(key) {
+        let key = label(alloc, key)?;
+        return Err(SheetFault::UnknownKey { key });
+    }
+    check_number(alloc, key, value)
 }
 
 /// Refuses a table of weights for its first entry that is at fault.
@@ -99,7 +110,33 @@ pub fn check_weights(alloc: Global, table: &Table) -> Result<(), SheetFault>
     Ok(())
 }
 
-/// Refuses a document for its first key that isn't `weights`.
+/// Refuses an entry of the table of further weights that is at fault.
+fn check_further(alloc: Global, key: &str, value: &Value) -> Result<(), SheetFault>
+    ensures ok { OnOk result (more_fault key.now (view value.now) ≡ None) }
+    ensures fault { IfErr result (λ fault. fault ≢ SheetFault.Memory →
+        more_fault key.now (view value.now) ≡ Some fault) }
+{
+    if key != "Q21" {
+        let key = label(alloc, key)?;
+        return Err(SheetFault::UnknownKey { key });
+    }
+    check_number(alloc, key, value)
+}
+
+/// Refuses a table of further weights for its first entry that is at fault.
+pub fn check_more(alloc: Global, table: &Table) -> Result<(), SheetFault>
+    ensures ok { OnOk result (first_fault more_fault (table_view table.now) ≡ None) }
+    ensures ordered { keys_ascend (table_view table.now) ≡ true }
+    ensures fault { IfErr result (λ fault. fault ≢ SheetFault.Memory →
+        first_fault more_fault (table_view table.now) ≡ Some fault) }
+{
+    for (key, value) in table.iter() {
+        check_further(alloc, key.as_str(), value)?;
+    }
+    Ok(())
+}
+
+/// Refuses a document for its first key that is neither `more` nor `weights`.
 pub fn check_keys(alloc: Global, document: &Table) -> Result<(), SheetFault>
     ensures ok { OnOk result (first_fault top_fault (table_view document.now) ≡ None) }
     ensures ordered { keys_ascend (table_view document.now) ≡ true }
@@ -107,7 +144,7 @@ pub fn check_keys(alloc: Global, document: &Table) -> Result<(), SheetFault>
         first_fault top_fault (table_view document.now) ≡ Some fault) }
 {
     for (key, _value) in document.iter() {
-        if key.as_str() != "weights" {
+        if key.as_str() != "more" && key.as_str() != "weights" {
             let key = label(alloc, key.as_str())?;
             return Err(SheetFault::UnknownKey { key });
         }
@@ -137,7 +174,7 @@ fn number_at(table: &Table, key: &str) -> Option<i64>
 /// The weight of a toll in a table of weights, or another where the table has none for it.
 fn weight_in(table: &Table, toll: u8, otherwise: u16) -> u16
     requires first { 1 ≤ toll }
-    requires last { toll ≤ greatest_toll }
+    requires last { toll ≤ 20 }
     requires right { first_fault entry_fault (table_view table.now) ≡ None }
     ensures { result ≡ weight_in (table_view table.now) toll otherwise }
 {
@@ -147,14 +184,25 @@ fn weight_in(table: &Table, toll: u8, otherwise: u16) -> u16
     }
 }
 
-/// The sheet of a table of weights.
-pub fn sheet_in(table: &Table) -> Sheet
+/// The weight of Q21 in a table of further weights: 0 where the table has none for it.
+pub fn more_in(table: &Table) -> u16
+    requires right { first_fault more_fault (table_view table.now) ≡ None }
+    ensures { result ≡ more_in (table_view table.now) }
+{
+    match number_at(table, "Q21") {
+        Some(weight) => kept(weight),
+        None => 0,
+    }
+}
+
+/// The sheet of a table of weights, with the weight of Q21.
+pub fn sheet_in(table: &Table, more: u16) -> Sheet
     requires right { first_fault entry_fault (table_view table.now) ≡ None }
-    ensures { result ≡ sheet_in (table_view table.now) }
+    ensures { result ≡ sheet_in (table_view table.now) more }
 {
     let default = default_sheet();
-    let mut weights = default.weights;
-    for i in 0..GREATEST_TOLL as usize {
+    let mut weights = [more; GREATEST_TOLL as usize];
+    for i in 0..LAST_WEIGHT as usize {
         weights[i] = weight_in(table, i as u8 + 1, default.weights[i]);
     }
     Sheet { weights }

@@ -11,5 +11,5 @@ mod sheet;
 pub use entries::label;
 pub use fault::SheetFault;
 pub use price::{Price, price_at};
-pub use reading::{document, read_sheet, weights_sheet};
+pub use reading::{document, read_sheet, tables_sheet};
 pub use sheet::{GREATEST_TOLL, Sheet, default_sheet, weight};

@@ -1,24 +1,24 @@
 //! Reading a sheet of weights.
 
-ghost use Rattle.std.specs.Prelude.{◌≡◌, ◌≢◌, true, IfErr, IfOk, None, Some, Err, Ok, option_map};
+ghost use Rattle.std.specs.Prelude.{◌≡◌, ◌≢◌, true, IfErr, IfOk, None, Some, Err, Ok, codes, option_map};
 ghost use Rattle.toml.specs.Data.{get_member};
 ghost use Rattle.toml.specs.View.{table_view, view};
-ghost use Rattle.penalty_sheet.specs.Sheets.{AreInOrder, document_of, document_said, HasSheetFault, IsInOrder, IsSheetOf, weights_ascend, weights_said};
+ghost use Rattle.penalty_sheet.specs.Sheets.{AreInOrder, AreTablesInOrder, document_of, document_said, HasSheetFault, IsInOrder, IsSheetOf, more_said, tables_said, weights_ascend, weights_said};
 
-use crate::entries::{check_keys, check_weights, label, sheet_in};
+use crate::entries::{check_keys, check_more, check_weights, label, more_in, sheet_in};
 use crate::fault::SheetFault;
-use crate::sheet::{Sheet, default_sheet};
+use crate::sheet::{Sheet, sheet_with};
 use std::alloc::Global;
 use toml::{Table, Value};
 
 /// The most bytes that a sheet may have.
 const MOST_BYTES: usize = 65_536;
 
-/// The sheet that the value of `weights` is.
-pub fn weights_sheet(alloc: Global, value: &Value) -> Result<Sheet, SheetFault>
-    ensures ok { IfOk result (λ sheet. weights_said (Some (view value.now)) ≡ Ok sheet) }
+/// The sheet that the value of `weights` is, with the weight of Q21.
+fn weights_sheet(alloc: Global, value: &Value, more: u16) -> Result<Sheet, SheetFault>
+    ensures ok { IfOk result (λ sheet. weights_said more (Some (view value.now)) ≡ Ok sheet) }
     ensures fault { IfErr result (λ fault. fault ≢ SheetFault.Memory →
-        weights_said (Some (view value.now)) ≡ Err fault) }
+        weights_said more (Some (view value.now)) ≡ Err fault) }
     ensures ordered { result ≢ Err SheetFault.Memory → weights_ascend (Some (view value.now))
         ≡ true }
 {
@@ -30,7 +30,26 @@ pub fn weights_sheet(alloc: Global, value: &Value) -> Result<Sheet, SheetFault>
         }
     };
     check_weights(alloc, table)?;
-    Ok(sheet_in(table))
+    Ok(sheet_in(table, more))
+}
+
+/// The weight of Q21 that the value of `more` is.
+fn more_weight(alloc: Global, value: &Value) -> Result<u16, SheetFault>
+    ensures ok { IfOk result (λ more. more_said (Some (view value.now)) ≡ Ok more) }
+    ensures fault { IfErr result (λ fault. fault ≢ SheetFault.Memory →
+        more_said (Some (view value.now)) ≡ Err fault) }
+    ensures ordered { result ≢ Err SheetFault.Memory → weights_ascend (Some (view value.now))
+        ≡ true }
+{
+    let table = match value.as_table() {
+        Some(table) => table,
+        None => {
+            let key = label(alloc, "more")?;
+            return Err(SheetFault::NotWhole { key });
+        }
+    };
+    check_more(alloc, table)?;
+    Ok(more_in(table))
 }
 
 /// The value at a key.
@@ -41,6 +60,48 @@ fn value_at<'a>(table: &'a Table, key: &str) -> Option<&'a Value>
     table.get(key)
 }
 
+/// The weight of Q21 that a document has.
+fn document_more(alloc: Global, document: &Table) -> Result<u16, SheetFault>
+    ensures ok { IfOk result (λ more. more_said (get_member (codes "more")
+        (table_view document.now)) ≡ Ok more) }
+    ensures fault { IfErr result (λ fault. fault ≢ SheetFault.Memory →
+        more_said (get_member (codes "more") (table_view document.now)) ≡ Err fault) }
+    ensures ordered { result ≢ Err SheetFault.Memory →
+        weights_ascend (get_member (codes "more") (table_view document.now)) ≡ true }
+{
+    match value_at(document, "more") {
+        None => Ok(0),
+        Some(value) => more_weight(alloc, value),
+    }
+}
+
+/// The weights that a document has, with the weight of Q21.
+fn document_weights(alloc: Global, document: &Table, more: u16) -> Result<Sheet, SheetFault>
+    ensures ok { IfOk result (λ sheet. weights_said more (get_member (codes "weights")
+        (table_view document.now)) ≡ Ok sheet) }
+    ensures fault { IfErr result (λ fault. fault ≢ SheetFault.Memory →
+        weights_said more (get_member (codes "weights") (table_view document.now)) ≡ Err fault) }
+    ensures ordered { result ≢ Err SheetFault.Memory →
+        weights_ascend (get_member (codes "weights") (table_view document.now)) ≡ true }
+{
+    match value_at(document, "weights") {
+        None => Ok(sheet_with(more)),
+        Some(value) => weights_sheet(alloc, value, more),
+    }
+}
+
+/// The sheet that the tables of a document are.
+pub fn tables_sheet(alloc: Global, document: &Table) -> Result<Sheet, SheetFault>
+    ensures ok { IfOk result (λ sheet. tables_said (table_view document.now) ≡ Ok sheet) }
+    ensures fault { IfErr result (λ fault. fault ≢ SheetFault.Memory →
+        tables_said (table_view document.now) ≡ Err fault) }
+    ensures ordered { result ≢ Err SheetFault.Memory → AreTablesInOrder
+        (table_view document.now) }
+{
+    let more = document_more(alloc, document)?;
+    document_weights(alloc, document, more)
+}
+
 /// The sheet that a document is.
 fn document_sheet(alloc: Global, document: &Table) -> Result<Sheet, SheetFault>
     ensures ok { IfOk result (λ sheet. document_said (table_view document.now) ≡ Ok sheet) }
@@ -49,10 +110,7 @@ fn document_sheet(alloc: Global, document: &Table) -> Result<Sheet, SheetFault>
     ensures ordered { result ≢ Err SheetFault.Memory → IsInOrder (table_view document.now) }
 {
     check_keys(alloc, document)?;
-    match value_at(document, "weights") {
-        None => Ok(default_sheet()),
-        Some(value) => weights_sheet(alloc, value),
-    }
+    tables_sheet(alloc, document)
 }
 
 /// The document that bytes are.
@@ -72,9 +130,9 @@ pub fn document(alloc: Global, bytes: &[u8]) -> Result<Table, SheetFault>
     }
 }
 
-/// Reads a sheet: a TOML document of at most 65,536 bytes whose one key is `weights`, a table with
-/// whole numbers from 0 to 10,000 for some of `Q1` to `Q20`. A toll that the table leaves out has
-/// the weight that it has in the default sheet.
+/// Reads a sheet: a TOML document of at most 65,536 bytes whose keys are among `weights`, a table
+/// with whole numbers from 0 to 10,000 for some of `Q1` to `Q20`, and `more`, a table with such a
+/// number for `Q21`. A toll that is left out has the weight that it has in the default sheet.
 pub fn read_sheet(alloc: Global, bytes: &[u8]) -> Result<Sheet, SheetFault>
     ensures ok { IfOk result (IsSheetOf bytes.now) }
     ensures fault { IfErr result (λ fault. fault ≢ SheetFault.Memory → HasSheetFault bytes.now

@@ -1,12 +1,14 @@
 //! The weights of the tolls.
 
 ghost use Rattle.std.specs.Prelude.{◌≡◌, ◌≤◌};
+ghost use Rattle.toml.specs.Data.{no_members};
+ghost use Rattle.penalty_sheet.specs.Sheets.{sheet_in};
 ghost use Rattle.penalty_sheet.specs.Weights.{default_weights, greatest_toll, weight_of};
 
-/// The greatest number of a toll: the tolls are Q1 to Q20.
-pub const GREATEST_TOLL: u8 = 20;
+/// The greatest number of a toll: the tolls are Q1 to Q21.
+pub const GREATEST_TOLL: u8 = 21;
 
-/// The weights of the tolls Q1 to Q20, in this order, from 0 to 10,000 each.
+/// The weights of the tolls Q1 to Q21, in this order, from 0 to 10,000 each.
 #[derive(Clone, Copy, Debug, PartialEq, Eq)]
 pub struct Sheet {
     pub weights: [u16; GREATEST_TOLL as usize],
@@ -16,8 +18,17 @@ pub struct Sheet {
 pub fn default_sheet() -> Sheet
     ensures { result.weights ≡ default_weights }
 {
+    sheet_with(0)
+}
+
+/// The same sheet with this weight of Q21.
+pub(crate) fn sheet_with(more: u16) -> Sheet
+    ensures { result ≡ sheet_in no_members more }
+{
     Sheet {
-        weights: [2, 3, 4, 2, 2, 1, 3, 1, 2, 5, 2, 4, 3, 4, 4, 5, 4, 3, 2, 3],
+        weights: [
+            2, 3, 4, 2, 2, 1, 3, 1, 2, 5, 2, 4, 3, 4, 4, 5, 4, 3, 2, 3, more,
+        ],
     }
 }
 

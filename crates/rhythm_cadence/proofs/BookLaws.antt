@@ -10,7 +10,7 @@ use Rattle.fux_grid.specs.declared.exercise.Exercise.{Exercise}
 use Rattle.fux_grid.specs.Cells.{cell_in, pitch_of}
 use Rattle.fux_grid.specs.Columns.{earlier, newest_column}
 use Rattle.fux_grid.specs.Exercises.{columns_in, slot_of}
-use Rattle.rule_law.proofs.AtOnce.{breaks_at_own_place, costs_where_it_may, newly_breaks-at_once, own_within}
+use Rattle.rule_law.proofs.AtOnce.{breaks_at_own_place, costs_at_own_place, costs_where_it_may, newly_breaks-at_once, own_within}
 use Rattle.rule_law.specs.Bars.{begins_bar, begins_inner_bar}
 use Rattle.rule_law.specs.Forms.{IsOf, all_form, may_stand, pair_form, set_of_all, sets_of, voice_form}
 use Rattle.rule_law.specs.Growth.{newly}
@@ -22,8 +22,9 @@ use Rattle.rule_law.specs.Quiet.{is_quiet, on_free_voice-none, on_pair-none, on_
 use Rattle.rule_law.specs.Rulebooks.{IsAmong, KeepsLaws, KeepsRuleLaws, KeepsTollLaws, newly_breaks, newly_costs, no_toll, nothing_keeps}
 use Rattle.rule_law.specs.Terms.{holds_of, interval_in}
 use Rattle.rhythm_cadence.proofs.AllRules.{by_row, ligature_is_local, ligature_settles_at_end}
-use Rattle.rhythm_cadence.specs.Book.{at_once_row, book, cadence_rule, is_late, is_late_toll, late_row, late_toll, ligature_row, pattern_row, quaver_rule, quavers_settled, rule_row, shape_rule, toll_row}
+use Rattle.rhythm_cadence.specs.Book.{at_once_row, book, cadence_rule, inflection_row, is_late, is_late_toll, late_row, late_toll, ligature_row, pattern_row, quaver_rule, quavers_settled, rule_row, shape_rule, toll_row}
 use Rattle.rhythm_cadence.specs.Cadence.{cadence_enough, cadence_row, lacks_cadence, shows_cadence}
+use Rattle.rhythm_cadence.specs.Inflections.{inflection_toll}
 use Rattle.rhythm_cadence.proofs.LateLaws.{pattern_enough_stays, pattern_is_local, pattern_needs, pattern_settles_at_end, quaver_enough_stays, quaver_is_local, quaver_settles_at_end}
 use Rattle.rhythm_cadence.proofs.Locality.{rhythm_breaks, rhythm_is_local, rhythm_settles_at_end, rhythm_stays}
 use Rattle.rhythm_cadence.specs.Parts.{newest_start}
@@ -381,17 +382,34 @@ pattern_keeps = record {
   within = λ ex i. pattern_within (settles_pattern i) i;
 }
 
--- the toll that isn't Q15
-pub pattern_row_of : (n : ℕ) → is_late_toll n ≡ true → (n ≡ 15 → ⊥) → toll_row n ≡ pattern_row
-pattern_row_of n late other = rw (late, ne_eqb n 15 other) refl
+-- ---- Q21
+
+inflection_keeps : KeepsTollLaws inflection_row
+unfolding inflection_toll
+inflection_keeps = record {
+  local = λ ex. local_from_row ex (inflection_toll ex) (λ i behind now ahead. true) (λ i behind now ahead t h. refl);
+  stays = λ ex i behind now ahead t h. refl;
+  ends = λ ex. at_once_settles ex;
+  at_once = λ late. cc;
+  quiet = λ late. cc;
+  places = λ late ex p col i on. costs_at_own_place inflection_row ex (λ i behind now ahead. refl) p col i;
+  within = λ ex i. omega arith;
+}
+
+-- the toll that is neither Q15 nor Q21
+pub pattern_row_of : (n : ℕ) → is_late_toll n ≡ true → (n ≡ 15 → ⊥) → (n ≡ 21 → ⊥) → toll_row n ≡ pattern_row
+pattern_row_of n late a b = rw (late, ne_eqb n 15 a, ne_eqb n 21 b) refl
 
 pub tolls_keep : (n : ℕ) → KeepsTollLaws (toll_row n)
-tolls_keep n = at (is_late_toll n) (n == 15)
+tolls_keep n = at (is_late_toll n) (n == 15) (n == 21)
   where
-    at : (a b : Bool) → KeepsTollLaws (if a then (if b then ligature_row else pattern_row) else no_toll)
-    at true true = ligature_keeps
-    at true false = pattern_keeps
-    at false b = nothing_keeps.tolls n
+    at : (a b c : Bool) → KeepsTollLaws (if a
+        then (if b then ligature_row else (if c then inflection_row else pattern_row))
+        else no_toll)
+    at true true c = ligature_keeps
+    at true false true = inflection_keeps
+    at true false false = pattern_keeps
+    at false b c = nothing_keeps.tolls n
 
 pub keeps_laws : KeepsLaws book
 keeps_laws = record { rules = λ n h. rules_keep n; tolls = λ n h. tolls_keep n }

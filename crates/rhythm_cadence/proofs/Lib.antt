@@ -13,3 +13,4 @@ pub mod PatternReadings
 pub mod Quiet
 pub mod ShapeLeft
 pub mod ShapeSets
+pub mod VoiceCounts

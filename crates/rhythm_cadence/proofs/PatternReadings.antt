@@ -17,8 +17,9 @@ use Rattle.rule_law.proofs.AtOnce.{among_own, newly_costs-there}
 use Rattle.rule_law.specs.Bars.{begins_bar, begins_inner_bar}
 use Rattle.rule_law.specs.Places.{reading_of}
 use Rattle.rule_law.specs.Rulebooks.{IsAmong, newly_costs}
-use Rattle.rhythm_cadence.specs.Book.{ligature_row, pattern_row}
+use Rattle.rhythm_cadence.specs.Book.{inflection_row, ligature_row, pattern_row}
 use Rattle.rhythm_cadence.specs.BarCells.{bar_behind}
+use Rattle.rhythm_cadence.specs.Inflections.{inflection_toll}
 use Rattle.rhythm_cadence.specs.Patterns.{missing_ligatures, pattern_toll, repeats_bar, repeats_slot, same_cells, settles_pattern}
 use Rattle.rhythm_cadence.proofs.BookLaws.{pattern_newly}
 
@@ -106,3 +107,10 @@ pub ligature_settles : (ex : Exercise) (p : List (List Cell)) (col : List Cell) 
 ligature_settles ex p col i among =
     let own : i ≡ length p = among_own (begins_inner_bar ex (length p)) i (length p) among in
     (own, newly_costs-there ligature_row ex (λ i behind now ahead. refl) p col i own)
+
+-- and so is Q21
+pub inflection_settles : (ex : Exercise) (p : List (List Cell)) (col : List Cell) (i : ℕ) → IsAmong (length p) 1 i
+    → (i ≡ length p) × (newly_costs inflection_row ex p col i ≡ reading_of (inflection_toll ex) (p ++ col ∷ []) i)
+inflection_settles ex p col i among =
+    let own : i ≡ length p = among_own true i (length p) among in
+    (own, newly_costs-there inflection_row ex (λ i behind now ahead. refl) p col i own)

@@ -11,7 +11,8 @@ use Rattle.fux_grid.specs.Exercises.{bar_of, species_in}
 use Rattle.rule_law.specs.Bars.{begins_bar, begins_inner_bar}
 use Rattle.rule_law.specs.Nearby.{Pitches, pitch_at}
 use Rattle.rule_law.specs.Quiet.{count_free-none, is_quiet, quiet_cell, quiet_slot, either_none, on_free_voice-none, on_pair-none, on_voice-none}
-use Rattle.rule_law.specs.Terms.{starts, holds_of, interval_in, lowest_voice}
+use Rattle.rule_law.specs.Terms.{starts, started_pitch, holds_of, interval_in, lowest_voice}
+use Rattle.rhythm_cadence.specs.Inflections.{inflection_toll, is_inflected, sounds_otherwise}
 use Rattle.rhythm_cadence.specs.Patterns.{lacks_ligature, missing_ligatures}
 use Rattle.rhythm_cadence.specs.Rows.{fits_ending, fits_opening, holds_of_pitch, is_final, near_rows, pitch_brought, voice_rule}
 
@@ -29,6 +30,21 @@ none_missing ex i now e =
     count_free-none ex (λ v. nat_lt v ex.voices && lacks_ligature ex i now v)
     (λ v. and_right (nat_lt v ex.voices) (lacks_ligature ex i now v)
     (ap (λ b. b && (species_in ex v == 4) && starts (cell_in now v)) e))
+
+-- no note starts in another alteration where none starts
+stands_still : (v : ℕ) (behind : List (List Cell)) (c : Cell) → starts c ≡ false
+    → holds_of_pitch (sounds_otherwise v behind) (started_pitch c) ≡ false
+stands_still v behind Rest still = refl
+stands_still v behind (Hold p) still = refl
+stands_still v behind (Start p) still = cc
+
+pub none_inflected : (ex : Exercise) (i : ℕ) (behind : List (List Cell)) (now : List Cell) (ahead : List (List Cell))
+    → is_quiet i now ≡ true → inflection_toll ex i behind now ahead ≡ 0
+unfolding inflection_toll
+none_inflected ex i behind now ahead quiet =
+    count_free-none ex (λ v. nat_lt v ex.voices && is_inflected v behind now)
+    (λ v. and_right (nat_lt v ex.voices) (is_inflected v behind now)
+    (stands_still v behind (cell_in now v) (quiet_cell i now quiet v)))
 
 module _ (ex : Exercise) (i : ℕ) (now : List Cell) (quiet : is_quiet i now ≡ true) where
   voice_unbroken : (rule v : ℕ) (previous : Option Pitch) → voice_rule rule ex v i previous now ≡ false

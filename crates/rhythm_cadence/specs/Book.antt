@@ -9,6 +9,7 @@ use Rattle.rule_law.specs.Nearby.{whole_of}
 use Rattle.rule_law.specs.Places.{at_once}
 use Rattle.rule_law.specs.Rulebooks.{RuleRow, Rulebook, TollRow, no_toll}
 use Rattle.rhythm_cadence.specs.Cadence.{cadence_enough, cadence_row}
+use Rattle.rhythm_cadence.specs.Inflections.{inflection_toll}
 use Rattle.rhythm_cadence.specs.Patterns.{ligature_toll, pattern_enough, pattern_toll, settles_pattern}
 use Rattle.rhythm_cadence.specs.Quavers.{quaver_enough, quaver_row}
 use Rattle.rhythm_cadence.specs.Rows.{begins_last_bar, broken_in, enough_after}
@@ -83,11 +84,11 @@ abbrev pub rule_row : ℕ → RuleRow
 rule_row n = if is_late n then late_row n else at_once_row n
 
 abbrev pub has_toll : ℕ → Bool
-has_toll n = (n == 15) || (n == 16)
+has_toll n = (n == 15) || (n == 16) || (n == 21)
 
--- both tolls are read so too
+-- the tolls are all read so too
 abbrev pub is_late_toll : ℕ → Bool
-is_late_toll n = (n == 15) || (n == 16)
+is_late_toll n = (n == 15) || (n == 16) || (n == 21)
 
 -- Q15 is settled at once, at the beginning of an inner bar
 abbrev pub ligature_row : TollRow
@@ -111,8 +112,19 @@ pattern_row = record {
   count = λ ex i. if settles_pattern i then 1 else 0;
 }
 
+-- Q21 is settled at once
+abbrev pub inflection_row : TollRow
+inflection_row = record {
+  kind = Window;
+  late = true;
+  cost = inflection_toll;
+  enough = λ ex. at_once;
+  first = λ ex i. i;
+  count = λ ex i. 1;
+}
+
 abbrev pub late_toll : ℕ → TollRow
-late_toll n = if n == 15 then ligature_row else pattern_row
+late_toll n = if n == 15 then ligature_row else (if n == 21 then inflection_row else pattern_row)
 
 abbrev pub toll_row : ℕ → TollRow
 toll_row n = if is_late_toll n then late_toll n else no_toll

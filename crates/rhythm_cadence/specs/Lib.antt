@@ -2,6 +2,7 @@ pub mod BarCells
 pub mod Book
 pub mod Cadence
 pub mod InPlace
+pub mod Inflections
 pub mod Parts
 pub mod Patterns
 pub mod Quavers

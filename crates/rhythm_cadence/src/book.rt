@@ -5,6 +5,7 @@ ghost use Rattle.rhythm_cadence.specs.Book as books;
 ghost use Rattle.rhythm_cadence.specs.Parts.{IsShapesOf};
 
 use crate::cadence::breaks_cadence;
+use crate::inflections::inflection_cost;
 use crate::late::quaver_places;
 use crate::part::{BarShapes, breaks_shapes, note, unbegun};
 use crate::patterns::{is_pattern_settled, missing_ligatures, pattern_cost, settles_pattern};
@@ -24,7 +25,7 @@ pub fn book_is_lawful()
     ensures { KeepsLaws books.book }
 {}
 
-/// S3, S22, S25 and both tolls are late.
+/// S3, S22, S25 and the tolls are late.
 impl RuleCrate for Rhythm {
     type Part = BarShapes;
 
@@ -48,7 +49,7 @@ impl RuleCrate for Rhythm {
 
     #[inline(always)]
     fn has_toll(toll: u8) -> bool {
-        toll == 15 || toll == 16
+        toll == 15 || toll == 16 || toll == 21
     }
 
     #[inline(always)]
@@ -100,16 +101,22 @@ impl RuleCrate for Rhythm {
         if toll == 15 {
             return LatePlaces::own(begins_inner_bar(ex, i), i);
         }
+        if toll == 21 {
+            return LatePlaces::own(true, i);
+        }
         LatePlaces::own(settles_pattern(i), i.saturating_sub(7))
     }
 
-    /// Q15 at the column itself, Q16 at the beginning of the bar that it ends.
+    /// Q15 and Q21 at the column itself, Q16 at the beginning of the bar that it ends.
     fn cost_late(newest: &NewestColumns, toll: u8, ex: &Exercise, place: usize) -> u32 {
         if toll == 15 {
             return missing_ligatures(ex, place, newest.cells(ex, place));
         }
         if place >= newest.len {
             return 0;
+        }
+        if toll == 21 {
+            return inflection_cost(newest, ex, place);
         }
         pattern_cost(newest, ex, place)
     }
@@ -205,6 +212,7 @@ impl RuleCrate for Rhythm {
         match toll {
             15 => missing_ligatures(ex, i, score.column(i).as_slice()),
             16 => pattern_cost(score, ex, i),
+            21 => inflection_cost(score, ex, i),
             _ => 0,
         }
     }

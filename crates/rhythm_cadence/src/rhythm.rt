@@ -147,6 +147,6 @@ pub(crate) fn is_open(ex: &Exercise, score: &Score, i: usize, voices: VoiceSet) 
     }
 }
 
-/// The rules S1, S2, S3, S12, S13, S22, S24 and S25, and the tolls Q15 and Q16.
+/// The rules S1, S2, S3, S12, S13, S22, S24 and S25, and the tolls Q15, Q16 and Q21.
 #[derive(Clone, Copy, Debug, PartialEq, Eq)]
 pub struct Rhythm;

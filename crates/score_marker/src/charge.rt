@@ -2,14 +2,14 @@
 
 use crate::mark::Mark;
 
-/// What a toll from Q1 to Q16 costs at a place, by its weight.
+/// What a toll from Q1 to Q16, or Q21, costs at a place, by its weight.
 #[derive(Clone, Copy, Debug, PartialEq, Eq)]
 pub struct TollCharge {
     /// Counted from 1.
     pub bar: u8,
     /// From 0 to 7.
     pub slot: u8,
-    /// The toll's number, from 1 to 16.
+    /// The toll's number, from 1 to 16 or 21.
     pub toll: u8,
     /// How often the toll stands there, times its weight.
     pub cost: u64,

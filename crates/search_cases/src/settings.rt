@@ -25,11 +25,15 @@ const SECOND_FREE: &[u8] = &[6, 7, 8, 9, 10, 15, 16, 17, 18, 19, 20, 21, 22, 23,
 
 /// The weights of the tolls that count.
 const FIRST_SHEET: Sheet = Sheet {
-    weights: [2, 0, 0, 0, 0, 0, 0, 1, 2, 0, 0, 0, 0, 0, 0, 0, 0, 0, 0, 0],
+    weights: [
+        2, 0, 0, 0, 0, 0, 0, 1, 2, 0, 0, 0, 0, 0, 0, 0, 0, 0, 0, 0, 0,
+    ],
 };
 
 const SECOND_SHEET: Sheet = Sheet {
-    weights: [2, 3, 0, 0, 0, 0, 3, 1, 2, 5, 0, 0, 0, 0, 0, 0, 0, 0, 0, 0],
+    weights: [
+        2, 3, 0, 0, 0, 0, 3, 1, 2, 5, 0, 0, 0, 0, 0, 0, 0, 0, 0, 0, 0,
+    ],
 };
 
 fn mode(name: &str) -> Result<Mode, Fail> {

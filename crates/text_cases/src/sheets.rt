@@ -7,7 +7,7 @@ use std::fmt::Write;
 use std::test::Fail;
 
 /// What a sheet is, and the words for its fault, or `read`.
-const SHEETS: [(&str, &str); 61] = [
+const SHEETS: [(&str, &str); 70] = [
     (
         "[weights] # c\r\n\"\u{e9}\"  =\t1979-00-01\r\nQ18 = 0",
         "not toml",
@@ -117,6 +117,15 @@ const SHEETS: [(&str, &str); 61] = [
     ("weights = 1\n", "not whole weights"),
     ("[weights]\nQ2 = -1\nQ10 = -1\nQ01 = 0\n", "unknown key Q01"),
     ("[weights]\nQ2 = -1\nQ10 = \"1\"\n", "not whole Q10"),
+    ("[more]\n", "read"),
+    ("[more]\nQ21 = 0\n", "read"),
+    ("[more]\nQ21 = 10000\n", "read"),
+    ("[more]\nQ21 = 10001\n", "weight Q21 10001"),
+    ("[more]\nQ21 = 1.0\n", "not whole Q21"),
+    ("[more]\nQ20 = 1\nQ21 = -1\n", "unknown key Q20"),
+    ("more = 1\n[weights]\nQ1 = -1\n", "not whole more"),
+    ("[weights]\nQ1 = -1\n[more]\nQ21 = -1\n", "weight Q21 -1"),
+    ("[moral]\n[more]\nQ21 = -1\n", "unknown key moral"),
 ];
 
 /// The words for a sheet's fault, or `read`.
@@ -159,11 +168,12 @@ fn is_shared<T: Send + Sync>(_: &T) {}
 
 /// Some weights of a sheet that gives two of them.
 fn weights(alloc: Global) -> Result<String, Fail> {
-    match read_sheet(alloc, b"weights = {Q2 = 7, Q10 = 10000}") {
+    match read_sheet(alloc, b"more.Q21 = 9\nweights = {Q2 = 7, Q10 = 10000}") {
         Ok(sheet) => {
             let (first, second) = (weight(&sheet, 1), weight(&sheet, 2));
-            let (tenth, last) = (weight(&sheet, 10), weight(&sheet, 20));
-            Ok(format!(in alloc; "Q1 {first} Q2 {second} Q10 {tenth} Q20 {last}")?)
+            let (tenth, twentieth) = (weight(&sheet, 10), weight(&sheet, 20));
+            let last = weight(&sheet, 21);
+            Ok(format!(in alloc; "Q1 {first} Q2 {second} Q10 {tenth} Q20 {twentieth} Q21 {last}")?)
         }
         Err(_) => Err("refused".into()),
     }
@@ -173,6 +183,11 @@ fn weights(alloc: Global) -> Result<String, Fail> {
 fn weights_are_kept(rt: HostRuntime) -> Result<(), Fail> {
     is_shared(&default_sheet());
     let found = weights(rt.alloc())?;
-    agree(&rt, "weights", found.as_str(), "Q1 2 Q2 7 Q10 10000 Q20 3");
+    agree(
+        &rt,
+        "weights",
+        found.as_str(),
+        "Q1 2 Q2 7 Q10 10000 Q20 3 Q21 9",
+    );
     Ok(())
 }

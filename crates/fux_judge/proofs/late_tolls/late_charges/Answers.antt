@@ -37,4 +37,5 @@ returns-clause-value c = λ p col come.
       c.charges_of-7.ensures.value p col come,
       c.charges_of-8.ensures.value p col come,
       c.charges_of-9.ensures.value p col come,
+      c.weighed_charges_of.ensures.value p col come,
     )

@@ -1,15 +1,13 @@
--- Q16 is the sum of four tests, one for each voice (`counted`); where no bar begins, or the first,
--- it costs nothing.
-use Rattle.std.proofs.Common.{◌≡◌, ℕ, ◌+◌, ◌&&◌, Bool, true, false, [], ap, sym, ◌∙◌, arith, drop}
-use Rattle.std.specs.Int.{from_bool}
-use Rattle.std.specs.Prelude.{cond, nat_le, nat_lt, slice_index_or}
+-- Q16 is the sum of four tests, one for each voice; where no bar begins, or the first, it costs
+-- nothing.
+use Rattle.std.proofs.Common.{◌≡◌, ◌+◌, ◌&&◌, false, [], ap, sym, ◌∙◌, arith, drop}
+use Rattle.std.specs.Prelude.{nat_le, nat_lt, slice_index_or}
 use Rattle.std.proofs.lemmas.Bool.{and_right}
 use Rattle.std.proofs.lemmas.Bool.Decides.{nat_tests}
-use Rattle.fux_grid.specs.declared.exercise.Exercise.{Exercise}
 use Rattle.fux_grid.specs.Columns.{earlier}
 use Rattle.rule_law.specs.Bars.{begins_bar}
-use Rattle.rule_law.specs.Voices.{count_free, is_free}
 use Rattle.rhythm_cadence.proofs.LateLaws.{pattern_needs}
+use Rattle.rhythm_cadence.proofs.VoiceCounts.{counted}
 use Rattle.rhythm_cadence.specs.Patterns.{is_pattern, pattern_toll}
 use Rattle.rhythm_cadence.proofs.patterns.pattern_cost.Goals as goal
 use Rattle.rhythm_cadence.proofs.patterns.pattern_cost.Goals.{then-not-begins_bar-via-then-not-begins_bar, then-not-begins_bar-via-else-not-begins_bar+then-i-lt8}
@@ -24,23 +22,6 @@ returns-then-not-begins_bar-clause-value g c = λ s first shown from.
           and_right (begins_bar i) (nat_le 8 i) (grind (arith, nat_tests, w.if-i-lt8.true))
     ] in
     sym (pattern_needs c.args.ex.now i (earlier s i) (slice_index_or s i []) (drop (i + 1) s) none)
-
-one : (a b : Bool) → a ≡ b → from_bool a ≡ cond b 1 0
-one a true e = ap from_bool e
-one a false e = ap from_bool e
-
--- four tests, one for each voice
-counted : (ex : Exercise) (test : ℕ → Bool) (a b d e : Bool) → a ≡ (is_free ex 0 && test 0)
-    → b ≡ (is_free ex 1 && test 1) → d ≡ (is_free ex 2 && test 2) → e ≡ (is_free ex 3 && test 3)
-    → from_bool a + from_bool b + from_bool d + from_bool e ≡ count_free ex test
-counted ex test a b d e p q r s =
-    omega (
-      arith,
-      one a (is_free ex 0 && test 0) p,
-      one b (is_free ex 1 && test 1) q,
-      one d (is_free ex 2 && test 2) r,
-      one e (is_free ex 3 && test 3) s,
-    )
 
 pub returns-clause-value : goal.returns-clause-value
 unfolding pattern_toll

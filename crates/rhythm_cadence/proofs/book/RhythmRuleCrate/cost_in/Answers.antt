@@ -9,3 +9,9 @@ returns-in-16 c =
     let s = c.args.score.now.columns in
     c.pattern_cost.ensures.value s 0 refl (omega arith)
     ∙ ap (λ n. reading_of ((toll_row n).cost c.args.ex.now) s c.args.i) (sym c.in-16.is)
+
+pub returns-in-21 : goal.returns-in-21
+returns-in-21 c =
+    let s = c.args.score.now.columns in
+    c.inflection_cost.ensures.value s 0 refl (omega arith) (omega arith)
+    ∙ ap (λ n. reading_of ((toll_row n).cost c.args.ex.now) s c.args.i) (sym c.in-21.is)
