@@ -1,5 +1,5 @@
 -- A whole picture.
-use Rattle.std.specs.Prelude.{ℕ, ◌+◌, ◌-◌, ◌*◌, List, [], ◌∷◌, ◌++◌, Option, codes, length, map, slice_get, if◌then◌else◌}
+use Rattle.std.specs.Prelude.{ℕ, ◌+◌, ◌-◌, ◌*◌, Bool, true, false, List, [], ◌∷◌, ◌++◌, Option, codes, length, map, slice_get, if◌then◌else◌}
 use Rattle.std.specs.Borrow.{Bor}
 use Rattle.std.specs.Fmt.{decimal}
 use Rattle.std.specs.List.{flat_map, range_with_len}
@@ -117,6 +117,14 @@ head height =
     ++ codes "xmlns:xlink=\"http://www.w3.org/1999/xlink\" " ++ size height
     ++ codes "<rect width=\"100%\" height=\"100%\" fill=\"#fff\"/>\n" ++ SYMBOLS.now
 
+-- the head of a picture so tall within an HTML page, which has the symbols
+unfoldable pub inner_head : ℕ → List ℕ
+inner_head height = codes "<svg " ++ size height
+
+-- the head of a picture with its own symbols, or within such a page
+abbrev pub begin : Bool → ℕ → List ℕ
+begin alone height = if alone then head height else inner_head height
+
 -- the row of the title
 unfoldable pub title_row : Exercise → Option (Bor (List SheetMark)) → List ℕ
 title_row ex marks =
@@ -124,9 +132,9 @@ title_row ex marks =
 
 -- the picture of an exercise with these lines, staves and places of bars: the title of another one,
 -- its bars, and below them a penalty and the marks, where they are shown
-unfoldable pub page : Exercise → Exercise → Option (Bor (List SheetMark)) → Option ℕ → List (List Cell) → List Staff → List BarPlace → List ℕ
-page ex titled marks penalty lines staves places =
-    head (page_end staves places + 50 + 17 * length (marks_of marks)) ++ title_row titled marks
+unfoldable pub page : Bool → Exercise → Exercise → Option (Bor (List SheetMark)) → Option ℕ → List (List Cell) → List Staff → List BarPlace → List ℕ
+page alone ex titled marks penalty lines staves places =
+    begin alone (page_end staves places + 50 + 17 * length (marks_of marks)) ++ title_row titled marks
     ++ bars ex (marks_of marks) lines staves places
     ++ penalty_rows (page_end staves places + 14) penalty
     ++ mark_rows (page_end staves places + 34) (marks_of marks) ++ codes "</svg>\n"
@@ -135,9 +143,15 @@ page ex titled marks penalty lines staves places =
 abbrev pub staves_of : Exercise → Option (Bor (List SheetMark)) → List Staff
 staves_of ex marks = staves ex (marks_of marks) (lines_of ex)
 
--- the picture of an exercise: its bars stand where they have room, in systems of its staves; its
--- title is that of another one: of itself, or with other species
-abbrev pub picture_of : Exercise → Exercise → Option (Bor (List SheetMark)) → Option ℕ → List ℕ
-picture_of ex titled marks penalty =
-    page ex titled marks penalty (lines_of ex) (staves_of ex marks)
+-- the picture of an exercise, alone or within a page: its bars stand where they have room, in systems
+-- of its staves; its title is that of another one: of itself, or with other species
+abbrev pub drawn_of : Bool → Exercise → Exercise → Option (Bor (List SheetMark)) → Option ℕ → List ℕ
+drawn_of alone ex titled marks penalty =
+    page alone ex titled marks penalty (lines_of ex) (staves_of ex marks)
     (bar_places ex (lines_of ex) (system_height (staves_of ex marks)))
+
+abbrev pub picture_of : Exercise → Exercise → Option (Bor (List SheetMark)) → Option ℕ → List ℕ
+picture_of ex titled marks penalty = drawn_of true ex titled marks penalty
+
+abbrev pub inlined_of : Exercise → Exercise → Option (Bor (List SheetMark)) → Option ℕ → List ℕ
+inlined_of ex titled marks penalty = drawn_of false ex titled marks penalty

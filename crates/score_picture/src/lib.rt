@@ -9,4 +9,5 @@ mod pages;
 mod staves;
 mod symbols;
 
-pub use pages::picture;
+pub use pages::{inlined, picture};
+pub use symbols::SYMBOLS;

@@ -2,7 +2,7 @@
 
 ghost use Rattle.std.specs.Prelude.{◌≡◌, ◌+◌, ◌*◌, ◌<◌, ◌≤◌, ◌^◌, ◌++◌, All, IfOk, OnOk, length, string_bytes};
 ghost use Rattle.score_xml.specs.Documents.{marks_of as marks_in};
-ghost use Rattle.score_picture.specs.Pictures.{head, last_top as top_of_last, lines_of as lines_of_all, page, page_end as end_of_page, picture_of, size, system_height as height_of_system, title_row};
+ghost use Rattle.score_picture.specs.Pictures.{begin, drawn_of, head, inlined_of, inner_head, last_top as top_of_last, lines_of as lines_of_all, page, page_end as end_of_page, picture_of, size, system_height as height_of_system, title_row};
 
 use crate::bars::put_bars;
 use crate::foot::{put_marks, put_penalty};
@@ -82,6 +82,26 @@ fn put_head(out: &mut String, height: u128) -> Result<(), Memory>
     Ok(())
 }
 
+/// Appends the head of a picture so tall within an HTML page, which has the symbols.
+#[tactic(auto, unfolding(crate::specs::Pictures::inner_head))]
+fn put_inner_head(out: &mut String, height: u128) -> Result<(), Memory>
+    ensures { OnOk result (string_bytes out.new ≡ string_bytes out.old ++ inner_head height) }
+{
+    out.push_str("<svg ")?;
+    put_size(out, height)
+}
+
+/// Appends the head of a picture so tall with its own symbols, or within such a page.
+fn put_begin(out: &mut String, alone: bool, height: u128) -> Result<(), Memory>
+    ensures { OnOk result (string_bytes out.new ≡ string_bytes out.old ++ begin alone height) }
+{
+    if alone {
+        put_head(out, height)
+    } else {
+        put_inner_head(out, height)
+    }
+}
+
 /// Appends the row of the title.
 #[tactic(auto, unfolding(crate::specs::Pictures::title_row))]
 fn put_title(out: &mut String, ex: &Exercise, marks: Option<&[SheetMark]>) -> Result<(), Memory>
@@ -99,6 +119,7 @@ fn put_title(out: &mut String, ex: &Exercise, marks: Option<&[SheetMark]>) -> Re
 #[tactic(auto, unfolding(crate::specs::Pictures::page))]
 fn page<'e>(
     alloc: Global,
+    alone: bool,
     ex: &Exercise<'e>,
     titled: &Exercise<'e>,
     marks: Option<&[SheetMark]>,
@@ -109,19 +130,41 @@ fn page<'e>(
 ) -> Result<String, Memory>
     requires { All (λ staff. staff.voice < 8) staves.now }
     ensures { IfOk result (λ text. string_bytes text
-        ≡ page ex.now titled.now marks.entry penalty lines.now staves.now places.now) }
+        ≡ page alone ex.now titled.now marks.entry penalty lines.now staves.now places.now) }
 {
     let shown = marks_of(marks);
     let marked = Marked { ex, marks: shown };
     let end = page_end(staves, places);
     let mut out = String::new(alloc);
-    put_head(&mut out, end + 50 + 17 * shown.len() as u128)?;
+    put_begin(&mut out, alone, end + 50 + 17 * shown.len() as u128)?;
     put_title(&mut out, titled, marks)?;
     put_bars(alloc, &mut out, &marked, lines, staves, places)?;
     put_penalty(&mut out, end + 14, penalty)?;
     put_marks(&mut out, end + 34, shown)?;
     out.push_str("</svg>\n")?;
     Ok(out)
+}
+
+/// The picture of an exercise, with its own symbols or within a page that has them.
+fn drawn<'e>(
+    alloc: Global,
+    alone: bool,
+    ex: &Exercise<'e>,
+    titled: &Exercise<'e>,
+    marks: Option<&[SheetMark]>,
+    penalty: Option<u64>,
+) -> Result<String, Memory>
+    requires { ex.now.voices ≤ 4 }
+    ensures { IfOk result (λ text.
+        string_bytes text ≡ drawn_of alone ex.now titled.now marks.entry penalty) }
+{
+    let lines = lines_of(alloc, ex)?;
+    let staves = staves(alloc, ex, marks_of(marks), &lines)?;
+    let places = bar_places(alloc, ex, &lines, system_height(&staves))?;
+    let text = page(
+        alloc, alone, ex, titled, marks, penalty, &lines, &staves, &places,
+    )?;
+    Ok(text)
 }
 
 /// The picture of an exercise as SVG, the highest voice first: of its setting; without one of the
@@ -141,9 +184,20 @@ pub fn picture<'e>(
     ensures { IfOk result (λ text.
         string_bytes text ≡ picture_of ex.now titled.now marks.entry penalty) }
 {
-    let lines = lines_of(alloc, ex)?;
-    let staves = staves(alloc, ex, marks_of(marks), &lines)?;
-    let places = bar_places(alloc, ex, &lines, system_height(&staves))?;
-    let text = page(alloc, ex, titled, marks, penalty, &lines, &staves, &places)?;
-    Ok(text)
+    drawn(alloc, true, ex, titled, marks, penalty)
+}
+
+/// The same within an HTML page, which has the symbols once.
+pub fn inlined<'e>(
+    alloc: Global,
+    ex: &Exercise<'e>,
+    titled: &Exercise<'e>,
+    marks: Option<&[SheetMark]>,
+    penalty: Option<u64>,
+) -> Result<String, Memory>
+    requires { ex.now.voices ≤ 4 }
+    ensures { IfOk result (λ text.
+        string_bytes text ≡ inlined_of ex.now titled.now marks.entry penalty) }
+{
+    drawn(alloc, false, ex, titled, marks, penalty)
 }

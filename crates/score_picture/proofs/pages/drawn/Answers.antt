@@ -5,7 +5,7 @@ use Rattle.std.proofs.lemmas.List.FromFn.{length-map-range_with_len}
 use Rattle.written_notes.specs.Lines.{line_of}
 use Rattle.sheet_layout.specs.declared.system.Staff.{Staff}
 use Rattle.sheet_layout.specs.Pages.{staff_of}
-use Rattle.score_picture.proofs.pages.picture.Goals as goal
+use Rattle.score_picture.proofs.pages.drawn.Goals as goal
 
 pub staves-requires-clause-lines : goal.staves-requires-clause-lines
 staves-requires-clause-lines c =
