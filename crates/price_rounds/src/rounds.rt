@@ -4,7 +4,7 @@
 //! exercise, where most pitches were struck four times already. No clause speaks of prices: any are
 //! fair once they are capped.
 
-use crate::ways::{Notes, Ways};
+use crate::ways::{Notes, Step, Ways};
 use fux_pitch::Memory;
 use penalty_sheet::{Sheet, weight};
 use priced_floors::{CASES, Charges, PITCHES, Prices, SCALE, Summit};
@@ -54,10 +54,20 @@ struct Bid {
     is_done: bool,
 }
 
-/// What is worked in a round: the least sums from the nodes to the end, where the case's keys were
-/// reached and where they weren't; and how often the least way strikes each pitch.
+/// What a column is charged in a case, `NONE` where it has a note above the case, and whether it has
+/// one of the case's keys.
+#[derive(Clone, Copy)]
+struct Toll {
+    sum: i64,
+    reaches: bool,
+}
+
+/// What is worked in a round: what each column is charged; the least sums from the nodes to the end,
+/// where the case's keys were reached and where they weren't; and how often the least way strikes
+/// each pitch.
 #[derive(Drop)]
 struct Round {
+    tolls: Vec<Toll>,
     sums: Vec<i64>,
     strikes: Vec<i64>,
 }
@@ -88,12 +98,15 @@ fn index_of(v: usize, place: u8) -> usize {
         .wrapping_sub(1)
 }
 
-/// What a column is charged in a case; none where it has a note above the case.
-fn toll(notes: &Notes, summit: &Summit, prices: &[i64]) -> Option<i64> {
+/// What a column is charged in a case by some prices.
+fn toll_of(notes: &Notes, summit: &Summit, prices: &[i64]) -> Toll {
     let mut sum = 0i64;
     if let Some(high) = summit.high {
         if notes.key > high {
-            return None;
+            return Toll {
+                sum: NONE,
+                reaches: false,
+            };
         }
         if notes.key == high {
             sum = i64::from(summit.charge);
@@ -105,37 +118,10 @@ fn toll(notes: &Notes, summit: &Summit, prices: &[i64]) -> Option<i64> {
             sum = sum.wrapping_add(whole(number_or(prices, index_of(v, place), 0)));
         }
     }
-    Some(sum)
-}
-
-/// The sum behind a step, from where the case's keys were reached or weren't.
-#[inline]
-fn sum_behind(
-    ways: &Ways,
-    step: usize,
-    reached: bool,
-    summit: &Summit,
-    prices: &[i64],
-    sums: &[i64],
-) -> i64 {
-    let Some(step) = ways.steps.get(step) else {
-        return NONE;
-    };
-    let Some(notes) = ways.notes.get(step.choice as usize) else {
-        return NONE;
-    };
-    let Some(charge) = toll(notes, summit, prices) else {
-        return NONE;
-    };
-    let reached = reached || summit.low == 0 || notes.key >= summit.low;
-    let node = (step.to as usize)
-        .wrapping_mul(2)
-        .wrapping_add(reached as usize);
-    i64::from(step.cost)
-        .wrapping_mul(i64::from(SCALE))
-        .wrapping_add(charge)
-        .wrapping_add(number_or(sums, node, NONE))
-        .min(NONE)
+    Toll {
+        sum,
+        reaches: summit.low == 0 || notes.key >= summit.low,
+    }
 }
 
 /// The steps of a node: from one number up to another.
@@ -151,69 +137,97 @@ fn steps_of(ways: &Ways, node: usize) -> (usize, usize) {
     (first, end)
 }
 
-/// The step of a node with the least sum behind it, and that sum.
-fn least_step(
-    ways: &Ways,
-    node: usize,
-    reached: bool,
-    summit: &Summit,
-    prices: &[i64],
-    sums: &[i64],
-) -> (usize, i64) {
-    let (first, end) = steps_of(ways, node);
-    let mut least = (end, NONE);
-    for step in first..end {
-        let sum = sum_behind(ways, step, reached, summit, prices, sums);
-        if sum < least.1 {
-            least = (step, sum);
-        }
-    }
-    least
-}
-
 impl Round {
     /// Room for the sums of the ways through a web.
     fn new(alloc: Global, ways: &Ways) -> Result<Round, Memory> {
+        let none = Toll {
+            sum: NONE,
+            reaches: false,
+        };
         Ok(Round {
+            tolls: vec![in alloc; none; ways.notes.len()]?,
             sums: vec![in alloc; NONE; ways.first.len().wrapping_mul(2)]?,
             strikes: vec![in alloc; 0i64; WIDTH]?,
         })
     }
 
-    /// The least sums by some prices, from the last nodes back.
+    /// The sum behind a step, from where the case's keys were reached or weren't.
+    #[inline]
+    fn sum_behind(&self, step: &Step, reached: bool) -> i64 {
+        let Some(toll) = self.tolls.get(step.choice as usize) else {
+            return NONE;
+        };
+        let reached = reached || toll.reaches;
+        let node = (step.to as usize)
+            .wrapping_mul(2)
+            .wrapping_add(reached as usize);
+        i64::from(step.cost)
+            .wrapping_mul(i64::from(SCALE))
+            .wrapping_add(toll.sum)
+            .wrapping_add(number_or(&self.sums, node, NONE))
+            .min(NONE)
+    }
+
+    /// The least sums behind the steps of a node, from where the case's keys weren't reached and
+    /// from where they were.
+    fn least_sums(&self, ways: &Ways, node: usize) -> [i64; 2] {
+        let (first, end) = steps_of(ways, node);
+        let mut least = [NONE; 2];
+        for step in first..end {
+            if let Some(step) = ways.steps.get(step) {
+                least[0] = least[0].min(self.sum_behind(step, false));
+                least[1] = least[1].min(self.sum_behind(step, true));
+            }
+        }
+        least
+    }
+
+    /// The step of a node with the least sum behind it, where one leads to the end.
+    fn least_step(&self, ways: &Ways, node: usize, reached: bool) -> Option<Step> {
+        let (first, end) = steps_of(ways, node);
+        let mut least = None;
+        let mut sum = NONE;
+        for step in first..end {
+            if let Some(step) = ways.steps.get(step) {
+                let other = self.sum_behind(step, reached);
+                if other < sum {
+                    sum = other;
+                    least = Some(*step);
+                }
+            }
+        }
+        least
+    }
+
+    /// What each column is charged by some prices, and the least sums by them, from the last nodes
+    /// back.
     fn work(&mut self, ways: &Ways, summit: &Summit, prices: &[i64]) {
+        for choice in 0..ways.notes.len() {
+            if let Some(own) = self.tolls.get_mut(choice) {
+                *own = toll_of(&ways.notes[choice], summit, prices);
+            }
+        }
         let count = ways.first.len();
         for back in 0..count {
             let node = count - 1 - back;
+            let mut sums = [NONE, 0];
+            if node < ways.end {
+                sums = self.least_sums(ways, node);
+            }
             for reached in 0..2usize {
-                let mut sum = NONE;
-                if node >= ways.end {
-                    if reached == 1 {
-                        sum = 0;
-                    }
-                } else {
-                    sum = least_step(ways, node, reached == 1, summit, prices, &self.sums).1;
-                }
                 if let Some(place) = self
                     .sums
                     .get_mut(node.wrapping_mul(2).wrapping_add(reached))
                 {
-                    *place = sum;
+                    *place = sums[reached];
                 }
             }
         }
     }
 
-    /// Counts the strikes on the least way from a start on, of so many steps, and tells where that
-    /// ends.
-    fn count(
-        &mut self,
-        case: &Case<'_>,
-        prices: &[i64],
-        start: &Start,
-        steps: usize,
-    ) -> (usize, bool) {
-        let (ways, summit) = (case.ways, &case.summit);
+    /// Counts the strikes on the least way from a start on, of so many steps, by the prices that were
+    /// worked last, and tells where that ends.
+    fn count(&mut self, ways: &Ways, start: &Start, steps: usize) -> (usize, bool) {
         for place in 0..WIDTH {
             if let Some(strikes) = self.strikes.get_mut(place) {
                 *strikes = 0;
@@ -222,25 +236,31 @@ impl Round {
         let mut node = start.node;
         let mut reached = start.reached;
         for _turn in 0..steps {
-            let (step, _) = least_step(ways, node, reached, summit, prices, &self.sums);
-            let Some(step) = ways.steps.get(step) else {
+            let Some(step) = self.least_step(ways, node, reached) else {
                 break;
             };
-            let Some(notes) = ways.notes.get(step.choice as usize) else {
-                break;
-            };
-            reached = reached || summit.low == 0 || notes.key >= summit.low;
-            for v in 0..4usize {
-                let place = notes.places[v];
-                if place > 0 {
-                    if let Some(strikes) = self.strikes.get_mut(index_of(v, place)) {
-                        *strikes = strikes.wrapping_add(1);
-                    }
-                }
+            let choice = step.choice as usize;
+            if let Some(toll) = self.tolls.get(choice) {
+                reached = reached || toll.reaches;
+            }
+            if let Some(notes) = ways.notes.get(choice) {
+                self.strike(notes);
             }
             node = step.to as usize;
         }
         (node, reached)
+    }
+
+    /// Counts the notes of a column.
+    fn strike(&mut self, notes: &Notes) {
+        for v in 0..4usize {
+            let place = notes.places[v];
+            if place > 0 {
+                if let Some(strikes) = self.strikes.get_mut(index_of(v, place)) {
+                    *strikes = strikes.wrapping_add(1);
+                }
+            }
+        }
     }
 }
 
@@ -274,7 +294,7 @@ impl Start {
     /// Goes on along the least way, so many steps.
     fn go_on(&mut self, case: &Case<'_>, prices: &[i64], round: &mut Round, steps: usize) {
         round.work(case.ways, &case.summit, prices);
-        let (node, reached) = round.count(case, prices, self, steps);
+        let (node, reached) = round.count(case.ways, self, steps);
         self.node = node;
         self.reached = reached;
         for place in 0..WIDTH {
@@ -423,7 +443,7 @@ impl Bid {
             self.sum = NONE;
             return;
         }
-        let _ = round.count(case, &self.prices, start, 192);
+        let _ = round.count(case.ways, start, 192);
         self.judge(sum);
         let norm = self.turn(&round.strikes, &start.free, case.most);
         if norm <= 0 {
@@ -515,7 +535,7 @@ impl Bid {
         let later = self.later(alloc, case, round, steps)?;
         self.lean(case, round, &start, &later, floor);
         round.work(case.ways, &case.summit, &self.best);
-        let _ = round.count(case, &self.best, &start, 192);
+        let _ = round.count(case.ways, &start, 192);
         for place in 0..WIDTH {
             if number_or(&round.strikes, place, 0) > 0 {
                 self.lift(case, round, &start, place, floor);

@@ -13,7 +13,7 @@ use tree_search::Space;
 /// How many steps there may be.
 const MOST_STEPS: usize = 1_500_000;
 
-/// A step: where its column stands among all columns of all menus, the spot that it leads to, and
+/// A step: where its column stands among those that some step takes, the spot that it leads to, and
 /// what it costs.
 #[derive(Clone, Copy)]
 pub struct Step {
@@ -31,7 +31,7 @@ pub struct Notes {
 }
 
 /// The ways through a web: for each of its spots, from the empty path on, the number of its first
-/// step; and the steps.
+/// step; the steps; and the notes of the columns that they take.
 #[derive(Drop)]
 pub struct Ways {
     pub first: Vec<u32>,
@@ -68,22 +68,61 @@ fn notes_in(column: &Column, voice: u8, cantus: u8) -> Notes {
     notes
 }
 
-/// The notes of all columns of all menus, and where those of each place begin.
-fn notes_of(
-    alloc: Global,
-    space: &SpeciesSpace<'_>,
-    voice: u8,
-) -> Result<(Vec<Notes>, Vec<u32>), Memory> {
-    let cantus = space.exercise().cantus_voice;
-    let mut notes = Vec::new(alloc);
-    let mut begins = Vec::new(alloc);
-    for depth in 0..space.depth() {
-        begins.push(short(notes.len()))?;
-        for column in space.tables().columns(depth) {
-            notes.push(notes_in(column, voice, cantus))?;
+/// The number of a column that no step has taken so far.
+const UNTAKEN: u32 = u32::MAX;
+
+/// The notes of the columns of all menus, where those of each place begin, and each column's number
+/// among those that some step takes. Where the menu of two places is kept once for both, so are its
+/// notes.
+#[derive(Drop)]
+struct Columns {
+    notes: Vec<Notes>,
+    begins: Vec<u32>,
+    numbers: Vec<u32>,
+}
+
+impl Columns {
+    /// The columns of a space, none of them taken.
+    fn new(alloc: Global, space: &SpeciesSpace<'_>, voice: u8) -> Result<Columns, Memory> {
+        let cantus = space.exercise().cantus_voice;
+        let mut notes = Vec::new(alloc);
+        let mut begins = Vec::new(alloc);
+        let mut begin = 0;
+        for depth in 0..space.depth() {
+            if depth == 0 || !space.tables().has_same_menu(depth - 1, depth) {
+                begin = short(notes.len());
+                for column in space.tables().columns(depth) {
+                    notes.push(notes_in(column, voice, cantus))?;
+                }
+            }
+            begins.push(begin)?;
         }
+        let numbers = vec![in alloc; UNTAKEN; notes.len()]?;
+        Ok(Columns {
+            notes,
+            begins,
+            numbers,
+        })
     }
-    Ok((notes, begins))
+
+    /// The number of the column of a label at a place, which is taken; its notes are added to these
+    /// where it wasn't before.
+    fn take(&mut self, taken: &mut Vec<Notes>, depth: usize, label: usize) -> Result<u32, Memory> {
+        let Some(begin) = self.begins.get(depth) else {
+            return Ok(0);
+        };
+        let place = (*begin as usize).wrapping_add(label);
+        let Some(number) = self.numbers.get_mut(place) else {
+            return Ok(0);
+        };
+        if *number == UNTAKEN {
+            if let Some(notes) = self.notes.get(place) {
+                *number = short(taken.len());
+                taken.push(*notes)?;
+            }
+        }
+        Ok(*number)
+    }
 }
 
 /// The ways through a web, unless there are too many.
@@ -93,11 +132,11 @@ pub fn ways_of(
     web: &Web<Kept>,
     voice: u8,
 ) -> Result<Option<Ways>, Memory> {
-    let (notes, begins) = notes_of(alloc, space, voice)?;
+    let mut columns = Columns::new(alloc, space, voice)?;
     let mut ways = Ways {
         first: Vec::with_capacity(alloc, web.spots.len())?,
         steps: Vec::new(alloc),
-        notes,
+        notes: Vec::new(alloc),
         depth: space.depth(),
         end: 0,
     };
@@ -106,14 +145,10 @@ pub fn ways_of(
         if spot.depth < ways.depth {
             ways.end = ways.first.len();
         }
-        let choice = match begins.get(spot.depth) {
-            Some(begin) => *begin as usize,
-            None => 0,
-        };
         for label in 0..spot.labels {
             if let Some(Some(edge)) = web.edges.get(spot.first.wrapping_add(label)) {
                 ways.steps.push(Step {
-                    choice: short(choice.wrapping_add(label)),
+                    choice: columns.take(&mut ways.notes, spot.depth, label)?,
                     to: edge.to,
                     cost: edge.cost,
                 })?;
