@@ -48,8 +48,8 @@ judge_claims-requires-clause-fresh g c =
 pub returns-in-Err-clause-near : goal.returns-in-Err-clause-near
 returns-in-Err-clause-near g c = each_verdict _ c.not_opened.result (λ it. inl (omega (arith, c.requires.limit)))
 
-pub returns-in-Ok-clause-near : goal.returns-in-Ok-clause-near
-returns-in-Ok-clause-near g c =
+pub returns-clause-near : goal.returns-clause-near
+returns-clause-near g c =
     let asked : Asked = record { exercise = c.args.ex.now; sheet = c.args.sheet.now } in
     let opening : Opening = record { head = c.args.head; stated = None } in
     let files = g.F.Shelf.files c.args.shelf.now in

@@ -1,4 +1,4 @@
-use Rattle.std.proofs.Common.{◌∷◌, [], ◌++◌, List, Option, Ok, Err, sym, ap, subst, ◌∙◌, arith}
+use Rattle.std.proofs.Common.{◌≡◌, ◌∷◌, [], ◌++◌, List, Option, Ok, Err, sym, ap, subst, ◌∙◌, arith}
 use Rattle.fux_port.specs.Counts.{Rose}
 use Rattle.fux_port.proofs.Rises.{rose_later}
 use Rattle.std.specs.List.{flat_map}
