@@ -91,7 +91,7 @@ returns-in-Err-clause-word g c = λ place is.
     let known = subst (λ (f : ReadFault). GivesStated files name later front reader after (Err f)) fault
     (given_there s.exercise files name s.head s.entries reader on (g.F.Shelf.files c.loop-potential.shelf) later after
     (Err c.in-Err.fault) c.loop-potential.invariant.2 c.in-Err.ensures.gives) in (
-      omega (arith, c.loop-potential.invariant.5, c.next.ensures.told_word place (c.in-Err.is ∙ is)),
+      omega (arith, c.loop-potential.invariant.5, c.next.ensures.told_word place (c.in-Err.is ∙ ap Err fault)),
       subst (λ n. EndsNear files name n after.offset) (sym known.such.0) (subst (λ (fs : Files). StandsNearStated fs name reader after.offset) c.loop-potential.invariant.2
           c.in-Err.ensures.near front on.at),
     )
