@@ -2,3 +2,4 @@ pub mod WordLaws
 pub mod WrittenLines
 pub mod ReadLines
 pub mod KeySteps
+pub mod WholeLists

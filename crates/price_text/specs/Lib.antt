@@ -1,3 +1,4 @@
 pub mod PriceLines
 pub mod Reading
 pub mod Laws
+pub mod Lists
