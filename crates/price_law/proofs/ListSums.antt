@@ -1,7 +1,9 @@
 -- The sums of lists are floors (`list_floors`), and so is the greatest of them (`sharp_floors`).
-use Rattle.std.proofs.Common.{◌≡◌, ℕ, ◌+◌, ◌-◌, ◌*◌, ◌<◌, ◌≤◌, true, List, [], ◌∷◌, ◌++◌, Option, Some, None, length, option_map, refl, sym, ap, ◌∙◌, subst, arith, append-nil}
+use Rattle.std.proofs.Common.{◌≡◌, ℕ, ◌+◌, ◌-◌, ◌*◌, ◌<◌, ◌≤◌, ◌==◌, ◌||◌, Bool, true, false, List, [], ◌∷◌, ◌++◌, Option, Some, None, length, option_map, refl, sym, ap, ap₂, ◌∙◌, subst, arith, append-nil, slice_index_or, if◌then◌else◌}
 use Rattle.std.specs.Prelude.{IfSome, IsSomeAnd, max}
-use Rattle.std.specs.List.{AllByRecursion}
+use Rattle.std.specs.List.{AllByRecursion, sum_by}
+use Rattle.std.proofs.Math.Nat.{mul-add, mul-le-mul_left}
+use Rattle.std.proofs.lemmas.List.Sums.{sum_by-cons}
 use Rattle.cert_law.proofs.FloorFacts.{floors_hold}
 use Rattle.cert_law.proofs.Prefixes.{append-middle}
 use Rattle.floor_graphs.specs.Graphs.{AreFloors}
@@ -9,38 +11,44 @@ use Rattle.floor_tables.specs.Floors.{floor_of, rest_of}
 use Rattle.floor_graphs.specs.Sharper.{greater}
 use Rattle.fux_grid.specs.declared.cell.Cell.{Cell}
 use Rattle.fux_grid.specs.declared.exercise.Exercise.{Exercise}
+use Rattle.fux_grid.specs.Cells.{cell_in}
 use Rattle.fux_grid.specs.Exercises.{IsValid, columns_in}
-use Rattle.fux_judge.specs.Gauges.{least_of}
+use Rattle.fux_grid.specs.Menus.{menu_of}
+use Rattle.fux_judge.specs.Gauges.{free_voices, least_of}
 use Rattle.fux_judge.specs.Lawful.{IsLawful}
 use Rattle.fux_judge.specs.Penalties.{paid, penalty_of}
 use Rattle.fux_judge.proofs.Alive.{alive_if_unbroken}
 use Rattle.fux_judge.proofs.LeastLaws.{least_grows, paid_and_least_at_end}
+use Rattle.fux_pitch.specs.declared.pitch.Pitch.{Pitch}
+use Rattle.melody_rules.specs.GaugeParts.{place_in}
+use Rattle.rule_law.specs.Terms.{started_pitch}
 use Rattle.open_ends.specs.declared.keeps.Keeps.{Keeps}
 use Rattle.open_ends.proofs.Followed.{voices_of_valid}
 use Rattle.open_ends.proofs.GoesOn.{leads_on}
 use Rattle.penalty_sheet.specs.declared.sheet.Sheet.{Sheet}
 use Rattle.priced_floors.specs.declared.charges.Charges.{Charges}
-use Rattle.priced_floors.specs.Charges.{AreFairCharges}
+use Rattle.priced_floors.specs.Charges.{AreFairCharges, any_summit, column_charge, comes_to, debt_in, keeps_within, note_charge, prices_of, reaches_in, summit_at, summit_of, toll_in}
+use Rattle.priced_floors.specs.Strikes.{top_price}
 use Rattle.priced_floors.specs.Kept.{kept_of, step_of}
 use Rattle.priced_floors.specs.PathLaws.{columns_parted, leaf_lawful, live_step}
 use Rattle.priced_floors.specs.PricedLaws.{breadth_of, settings_are_priced}
 use Rattle.priced_paths.specs.Pricings.{IsPricedStep}
-use Rattle.priced_paths.specs.Tolls.{charged_from, has_reached, sum_of}
+use Rattle.priced_paths.specs.Tolls.{charged_from, has_reached, has_reached_from, sum_of}
 use Rattle.species_space.specs.Grows.{live_value, paths_grow}
 use Rattle.species_space.specs.Paths.{column_at, columns_on, live_at, prefix_at}
 use Rattle.tree_search.specs.Answer.{IsLeaf}
 use Rattle.tree_search.proofs.Floors.{live_above}
-use Rattle.price_law.specs.Certificates.{IsFairList, IsFloorOf}
-use Rattle.price_law.specs.LeastRests.{rest_of_path}
-use Rattle.price_law.specs.PriceLists.{PriceList, charged_sum, greatest_sum, list_sum, numbers_from, paid_on, path_of, plain_case, plain_sum, sharp_floor, sharp_tail, spent_of, sum_with}
-use Rattle.price_law.proofs.RestLaws.{case_sums_are_floors, rest_of_path_is_low}
+use Rattle.price_law.specs.Certificates.{ChargesNothing, IsFairList, IsFloorOf}
+use Rattle.path_sums.specs.LeastRests.{sum_in_case}
+use Rattle.path_sums.proofs.RestLaws.{case_sums_are_floors, least_low, sum_is_low}
+use Rattle.price_law.specs.PriceLists.{PriceList, case_in, charged_sum, greatest_sum, least_on, list_sum, numbers_from, paid_on, path_of, sharp_floor, sharp_tail, spent_by, spent_of}
 use Rattle.price_law.proofs.Ways.{lawful_leaf, numbers_from-append, way_back}
 
 -- ---- a list that charges
 
 module _ (ex : Exercise) (valid : IsValid ex) (sheet : Sheet) (keeps : Keeps) where
   charged_floors : (charges : Charges) → AreFairCharges charges sheet
-      → AreFloors (live_at ex sheet) (columns_in ex) (charged_sum ex sheet keeps charges)
+      → AreFloors (live_at ex sheet) (columns_in ex) (λ path. charged_sum ex sheet keeps charges (paid_on ex sheet path) path)
   unfolding charged_sum
   charged_floors charges fair =
       case_sums_are_floors (settings_are_priced ex sheet keeps charges (voices_of_valid ex valid) fair) (λ k. fair.some)
@@ -68,13 +76,45 @@ module _ (ex : Exercise) (valid : IsValid ex) (sheet : Sheet) (keeps : Keeps) wh
         paid = step.settles;
       }
 
-  plain_charge : (i : ℕ) (path : List ℕ) → charged_from plain_case.toll i path ≡ Some 0
-  plain_charge i [] = refl
-  plain_charge i (k ∷ path) = ap (sum_of (Some 0)) (plain_charge (i + 1) path)
+  module _ (charges : Charges) (nothing : ChargesNothing charges) where
+    whole_case : summit_at charges 0 ≡ any_summit
+    whole_case = ap (λ s. slice_index_or s 0 any_summit) nothing.cases
 
-  plain_reach : (path : List ℕ) → 0 < length path → has_reached plain_case.reaches path ≡ true
-  plain_reach [] some = absurd (omega (arith, some))
-  plain_reach (k ∷ path) some = refl
+    of_voice : (v : ℕ) → summit_of charges 0 v ≡ any_summit
+    of_voice v = by (v == charges.voice)
+      where
+        by : (b : Bool) → (if b then summit_at charges 0 else any_summit) ≡ any_summit
+        by true = whole_case
+        by false = refl
+
+    no_note : (v : ℕ) (o : Option Pitch) → note_charge (prices_of charges 0 v) (summit_of charges 0 v) o ≡ 0
+    no_note v None = refl
+    no_note v (Some p) =
+        let strike = nothing.strikes 0 v (place_in p) in
+        let top : top_price (summit_of charges 0 v) p ≡ 0 = ap (λ s. top_price s p) (of_voice v) in
+        omega (arith, strike, top)
+
+    no_sum : (f : ℕ → ℕ) (vs : List ℕ) → ((v : ℕ) → f v ≡ 0) → sum_by f vs ≡ 0
+    no_sum f [] none = refl
+    no_sum f (v ∷ vs) none = omega (arith, sum_by-cons f v vs, none v, no_sum f vs none)
+
+    no_toll : (i k : ℕ) → toll_in ex charges 0 i k ≡ Some 0
+    no_toll i k =
+        let col = slice_index_or (menu_of ex i) k [] in
+        ap (λ s. if keeps_within s.high (started_pitch (cell_in col charges.voice))
+        then Some (column_charge ex charges 0 col) else None) whole_case
+        ∙ ap (λ n. Some n) (no_sum (λ v. note_charge (prices_of charges 0 v) (summit_of charges 0 v)
+        (started_pitch (cell_in col v))) (free_voices ex) (λ v. no_note v (started_pitch (cell_in col v))))
+
+    no_charge : (i : ℕ) (path : List ℕ) → charged_from (toll_in ex charges 0) i path ≡ Some 0
+    no_charge i [] = refl
+    no_charge i (k ∷ path) = ap₂ sum_of (no_toll i k) (no_charge (i + 1) path)
+
+    reach_at_once : (path : List ℕ) → 0 < length path → has_reached (reaches_in ex charges 0) path ≡ true
+    reach_at_once [] some = absurd (omega (arith, some))
+    reach_at_once (k ∷ path) some =
+        ap (λ s. comes_to s.low (started_pitch (cell_in (slice_index_or (menu_of ex 0) k []) charges.voice))
+        || has_reached_from (reaches_in ex charges 0) (0 + 1) path) whole_case
 
   -- what the lines cost at least never falls
   least_before : (p rest : List (List Cell)) → IsLawful ex (p ++ rest)
@@ -122,49 +162,54 @@ module _ (ex : Exercise) (valid : IsValid ex) (sheet : Sheet) (keeps : Keeps) wh
   from_paths sum floors p rest lawful =
       let way = on_way p rest lawful in floors (path_of ex p) way.more (penalty_of ex sheet (p ++ rest)) way.leaf
 
-  plain_low : (p rest : List (List Cell)) (left : Option ℕ) (own most : ℕ)
-      → own ≡ paid ex sheet p + least_of ex sheet p
-      → IsSomeAnd left (λ n. n + paid ex sheet p + least_of ex sheet p ≤ most)
-      → IsSomeAnd (option_map (λ n. own + n) left) (λ floor. floor ≤ most)
-  plain_low p rest None own most e low = absurd low
-  plain_low p rest (Some n) own most e low = omega (arith, e, low)
+  -- what is spent before is no more than what is in the end
+  spent_low : (scale debt a l b m w : ℕ) → l ≤ m → b + m ≡ w → scale * (a + l) + (scale * b + 0) ≤ scale * w + scale * a + debt
+  spent_low scale debt a l b m w less all =
+      let more : scale * l ≤ scale * m = mul-le-mul_left scale less in
+      let one = mul-add scale a l in
+      let two = mul-add scale b m in
+      let same : scale * (b + m) ≡ scale * w = ap (λ n. scale * n) all in
+      omega (arith, more, one, two, same)
 
-  with_least : (left : Option ℕ) (a b x y z w : ℕ) → IsSomeAnd left (λ n. n + (1 * a + 0) ≤ 1 * b + 0)
-      → a ≡ x → b ≡ y → z ≤ w → IsSomeAnd left (λ n. n + x + z ≤ y + w)
-  with_least None a b x y z w low e f h = absurd low
-  with_least (Some n) a b x y z w low e f h = omega (arith, low, e, f, h)
-
-  plain_floors : IsFloorOf ex sheet (λ p. plain_sum ex sheet keeps (path_of ex p))
-  unfolding plain_sum
-  plain_floors p rest lawful =
+  plain_floors : (charges : Charges) → AreFairCharges charges sheet → ChargesNothing charges
+      → IsFloorOf ex sheet (λ p. charged_sum ex sheet keeps charges (paid_on ex sheet (path_of ex p)
+      + least_on ex sheet (path_of ex p)) (path_of ex p))
+  unfolding charged_sum
+  plain_floors charges fair nothing p rest lawful =
       let way = on_way p rest lawful in
       let path = path_of ex p in
       let s = p ++ rest in
-      let left = rest_of_path (columns_in ex) (kept_of ex keeps) (breadth_of ex) (step_of ex sheet keeps) plain_case path in
-      let some : 0 < length (path ++ way.more) = omega (arith, way.leaf.0, valid.fewest_bars) in
-      let low = rest_of_path_is_low (live_at ex sheet) (columns_in ex) plain_steps plain_case path way.more (penalty_of ex sheet s) 0 0 way.leaf
-      (plain_charge 0 path) (plain_charge 0 (path ++ way.more)) (plain_reach (path ++ way.more) some) in
-      let here : paid_on ex sheet path ≡ paid ex sheet p = ap (paid ex sheet) way.back in
-      let there : paid_on ex sheet (path ++ way.more) ≡ paid ex sheet s =
-      ap (paid_on ex sheet) way.goes_on ∙ ap (paid ex sheet) way.whole in
+      let whole = path ++ way.more in
+      let some : 0 < length whole = omega (arith, way.leaf.0, valid.fewest_bars) in
+      let own = paid_on ex sheet path + least_on ex sheet path in
+      let most = penalty_of ex sheet s in
+      let sums : ℕ → Option ℕ = λ k. sum_in_case (columns_in ex) (kept_of ex keeps []) (breadth_of ex)
+      (step_of ex sheet keeps) (case_in ex charges k) own path in
+      let there : paid_on ex sheet whole ≡ paid ex sheet s = ap (paid_on ex sheet) way.goes_on ∙ ap (paid ex sheet) way.whole in
       let lines : least_of ex sheet (prefix_at ex path) ≡ least_of ex sheet p = ap (least_of ex sheet) way.back in
-      let all = spent_at_end s lawful in
-      let sum = with_least left (paid_on ex sheet path) (paid_on ex sheet (path ++ way.more)) (paid ex sheet p)
-      (paid ex sheet s) (least_of ex sheet p) (least_of ex sheet s) low here there (least_before p rest lawful) in
-      plain_low p rest left (paid_on ex sheet path + least_of ex sheet (prefix_at ex path)) (penalty_of ex sheet s)
-      (omega (arith, here, lines))
-      (subst (λ (n : ℕ). IsSomeAnd left (λ x. x + paid ex sheet p + least_of ex sheet p ≤ n)) all sum)
+      let before : least_on ex sheet path ≤ least_of ex sheet s = let less = least_before p rest lawful in omega (arith, lines, less) in
+      let all : paid_on ex sheet whole + least_of ex sheet s ≡ most =
+      ap (λ n. n + least_of ex sheet s) there ∙ spent_at_end s lawful in
+      let due = spent_low charges.scale (debt_in ex charges 0) (paid_on ex sheet path) (least_on ex sheet path)
+      (paid_on ex sheet whole) (least_of ex sheet s) most before all in
+      let low = sum_is_low (live_at ex sheet) (columns_in ex) plain_steps (case_in ex charges 0) fair.some path way.more
+      most own most 0 way.leaf (no_charge charges nothing 0 whole) (reach_at_once charges nothing whole some) due in
+      let one : length charges.summits.items ≡ 1 = ap length nothing.cases in
+      least_low sums (length charges.summits.items) 0 (omega (arith, one)) most low
 
-  floors_with : (charges : Option Charges) → IfSome charges (λ c. AreFairCharges c sheet)
-      → IsFloorOf ex sheet (λ p. sum_with ex sheet keeps charges (path_of ex p))
-  floors_with None fair = plain_floors
-  floors_with (Some charges) fair = from_paths (charged_sum ex sheet keeps charges) (charged_floors charges fair)
+  floors_with : (charges : Charges) (plain : Bool) → AreFairCharges charges sheet
+      → (plain ≡ true → ChargesNothing charges)
+      → IsFloorOf ex sheet (λ p. charged_sum ex sheet keeps charges (spent_by plain (paid_on ex sheet (path_of ex p))
+      (least_on ex sheet (path_of ex p))) (path_of ex p))
+  floors_with charges true fair nothing = plain_floors charges fair (nothing refl)
+  floors_with charges false fair nothing =
+      from_paths (λ path. charged_sum ex sheet keeps charges (paid_on ex sheet path) path) (charged_floors charges fair)
 
 -- ---- all lists
 
 pub list_floors : (ex : Exercise) (sheet : Sheet) (list : PriceList) → IsValid ex → IsFairList sheet list
     → IsFloorOf ex sheet (list_sum ex sheet list)
-list_floors ex sheet list valid fair = floors_with ex valid sheet list.keeps list.charges fair
+list_floors ex sheet list valid fair = floors_with ex valid sheet list.keeps list.charges list.plain fair.fair fair.nothing
 
 greater_low : (one other : Option ℕ) (most : ℕ) → IsSomeAnd one (λ x. x ≤ most) → IsSomeAnd other (λ x. x ≤ most)
     → IsSomeAnd (greater one other) (λ x. x ≤ most)

@@ -1,14 +1,16 @@
 -- Whatever tail a prefix has, some entries state it (`stating_tail`), so what is told of claims by
 -- tails is told of claims by lists (`tails_tell_truth`).
-use Rattle.std.proofs.Common.{◌≡◌, ℕ, zero, suc, ◌+◌, ◌-◌, Bool, List, [], ◌∷◌, Option, Some, None, length, option_map, refl, sym, ap, ◌∙◌, subst, slice_index_or}
-use Rattle.std.specs.Prelude.{◌↔◌, IsSomeAnd, IsTrue}
+use Rattle.std.proofs.Common.{◌≡◌, ℕ, zero, suc, ◌+◌, ◌-◌, Bool, List, [], ◌∷◌, Option, Some, None, false, length, option_map, refl, sym, ap, ap₂, ◌∙◌, subst, if◌then◌else◌}
+use Rattle.std.specs.Prelude.{◌↔◌, IsSomeAnd, IsTrue, is_none}
+use Rattle.std.specs.Option.{option_map_or}
 use Rattle.cert_law.specs.declared.judged.Judged.{Judged}
 use Rattle.cert_law.specs.Cases.{Matter}
 use Rattle.cert_law.specs.Claims.{IsNoBetter, IsTrueOf}
 use Rattle.cert_law.specs.Entries.{columns_before, entry_at, number_in}
 use Rattle.cert_law.specs.Prefixes.{IsJudged}
 use Rattle.cert_law.specs.Tails.{entry_behind, number_of, tail_of, used_floor}
-use Rattle.cert_law.specs.Truths.{TellsTruth}
+use Rattle.cert_law.specs.Truths.{IsFirstClaim, TellsTruth}
+use Rattle.cert_law.specs.Writer.{first_claim, is_no_better, is_setting_of, least_break}
 use Rattle.cert_text.specs.declared.claim.Claim.{Claim}
 use Rattle.cert_text.specs.declared.claim.Claim.TheVariants.{Open, Broken, NoChain, Floor, TheScore}
 use Rattle.cert_text.specs.declared.potential.Potential.{Potential}
@@ -19,6 +21,7 @@ use Rattle.fux_grid.specs.Menus.{menu_of}
 use Rattle.fux_judge.specs.Links.{last_column}
 use Rattle.penalty_sheet.specs.declared.sheet.Sheet.{Sheet}
 use Rattle.price_law.specs.Certificates.{IsSharpTrueOf}
+use Rattle.price_law.specs.Truths.{sharp_first_claim}
 use Rattle.price_law.specs.PriceLists.{PriceList, sharp_floor, sharp_tail, spent_of}
 use Rattle.price_law.proofs.ListSums.{tails_give_floors}
 
@@ -99,6 +102,25 @@ module _ (t : Matter) (lists : List PriceList) (p : List (List Cell)) where
     subst (λ (o : Option ℕ). IsSomeAnd o (IsNoBetter t.head p)) (sym floor_is),
   )
   same_claim TheScore = (λ h. h, λ h. h)
+
+  none_same : (f : ℕ → ℕ) (o : Option ℕ) → is_none (option_map f o) ≡ is_none o
+  none_same f None = refl
+  none_same f (Some n) = refl
+
+  same_first : first_claim t.exercise t.sheet t.head (Some its_entries) p
+      ≡ sharp_first_claim t.exercise t.sheet t.head lists p
+  same_first =
+      ap₂ (λ (none : Bool) (floor : Option ℕ). if is_setting_of t.head p then TheScore
+      else option_map_or Broken (least_break t.exercise p) (if none then NoChain
+      else (if option_map_or (is_no_better t.head p) floor false then Floor else Open)))
+      (ap is_none tail_is ∙ none_same (λ floor. floor - spent_of t.exercise t.sheet p)
+      (sharp_floor t.exercise t.sheet lists p)) floor_is
+
+pub tails_tell_first : (t : Matter) (lists : List PriceList) (judged : Judged) (claim : Claim) (p : List (List Cell))
+    → IsJudged t p judged → IsFirstClaim t judged (sharp_tail t.exercise t.sheet lists p) claim
+    → claim ≡ sharp_first_claim t.exercise t.sheet t.head lists p
+tails_tell_first t lists judged claim p known tells =
+    tells (Some (its_entries t lists p)) p known (sym (tail_is t lists p)) ∙ same_first t lists p
 
 pub tails_tell_truth : (t : Matter) (lists : List PriceList) (judged : Judged) (claim : Claim) (result : Bool)
     (p : List (List Cell)) → IsJudged t p judged

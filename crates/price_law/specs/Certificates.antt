@@ -1,6 +1,6 @@
 -- Certificates of the third form: a head, lists of prices, and claims, those of the prefixes in
 -- preorder from the empty one; each price and each claim is true.
-use Rattle.std.specs.Prelude.{◌≡◌, ◌≤◌, ℕ, ◌+◌, List, [], ◌++◌, Option, None, IfSome, IsSomeAnd, option_map}
+use Rattle.std.specs.Prelude.{◌≡◌, ◌≤◌, ℕ, ◌+◌, true, List, [], ◌∷◌, ◌++◌, Option, None, IsSomeAnd, option_map, slice_index}
 use Rattle.std.specs.List.{AllByRecursion}
 use Rattle.cert_text.specs.declared.answers.CertHead.{CertHead}
 use Rattle.cert_text.specs.declared.claim.Claim.{Claim}
@@ -14,7 +14,8 @@ use Rattle.fux_grid.specs.Exercises.{IsValid}
 use Rattle.fux_judge.specs.Lawful.{IsLawful}
 use Rattle.fux_judge.specs.Penalties.{penalty_of}
 use Rattle.penalty_sheet.specs.declared.sheet.Sheet.{Sheet}
-use Rattle.priced_floors.specs.Charges.{AreFairCharges}
+use Rattle.priced_floors.specs.declared.charges.Charges.{Charges}
+use Rattle.priced_floors.specs.Charges.{AreFairCharges, any_summit, prices_of}
 use Rattle.price_law.specs.PriceLists.{PriceList, list_sum, sharp_floor, sharp_tail, spent_of}
 
 -- a claim is true of a prefix by some lists: `x` where one of them has no sum, `f` where the floor
@@ -31,9 +32,15 @@ abbrev pub sharp_tree : Exercise → Sheet → CertHead → List PriceList → T
 sharp_tree ex sheet head lists =
     record { IsTrueOf = IsSharpTrueOf ex sheet head lists; is_open = is_open; longer = longer_prefixes ex }
 
--- what a list charges is due
-abbrev pub IsFairList : Sheet → PriceList → Type 0
-IsFairList sheet list = IfSome list.charges (λ charges. AreFairCharges charges sheet)
+-- no note is charged, and no case is told apart
+pub record ChargesNothing (charges : Charges) : Type 0 where
+  pub strikes : (case v place : ℕ) → slice_index (prices_of charges case v).strikes place ≡ 0
+  pub cases : charges.summits.items ≡ any_summit ∷ []
+
+-- what a list charges is due, and a plain one charges nothing
+pub record IsFairList (sheet : Sheet) (list : PriceList) : Type 0 where
+  pub fair : AreFairCharges list.charges sheet
+  pub nothing : list.plain ≡ true → ChargesNothing list.charges
 
 -- a valid certificate of the third form
 pub record IsSharpCertificate (ex : Exercise) (sheet : Sheet) (head : CertHead) (lists : List PriceList)

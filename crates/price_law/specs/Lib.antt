@@ -1,5 +1,3 @@
-pub mod LeastRests
 pub mod PriceLists
 pub mod Certificates
-pub mod WebRests
 pub mod Truths

@@ -1,7 +1,6 @@
 -- Lists of prices, and the floors of prefixes by them.
-use Rattle.std.specs.Prelude.{ℕ, suc, ◌+◌, ◌-◌, List, [], ◌∷◌, Option, Some, None, true, option_map, length}
+use Rattle.std.specs.Prelude.{ℕ, suc, ◌+◌, ◌-◌, Bool, true, false, List, [], ◌∷◌, Option, Some, option_map, length}
 use Rattle.cert_law.specs.Tails.{number_of}
-use Rattle.floor_graphs.specs.Cases.{least_below}
 use Rattle.floor_graphs.specs.Sharper.{greater}
 use Rattle.fux_grid.specs.declared.cell.Cell.{Cell}
 use Rattle.fux_grid.specs.declared.exercise.Exercise.{Exercise}
@@ -11,7 +10,7 @@ use Rattle.fux_judge.specs.Gauges.{least_of}
 use Rattle.fux_judge.specs.Penalties.{paid}
 use Rattle.open_ends.specs.declared.keeps.Keeps.{Keeps}
 use Rattle.penalty_sheet.specs.declared.sheet.Sheet.{Sheet}
-use Rattle.price_law.specs.LeastRests.{rest_of_path, sum_in_case}
+use Rattle.path_sums.specs.LeastRests.{least_sum}
 use Rattle.priced_floors.specs.declared.charges.Charges.{Charges}
 use Rattle.priced_floors.specs.Charges.{reaches_in, toll_in}
 use Rattle.priced_floors.specs.Kept.{kept_of, step_of}
@@ -19,11 +18,12 @@ use Rattle.priced_floors.specs.PricedLaws.{breadth_of, rate_in}
 use Rattle.priced_paths.specs.CaseGraphs.{Case, case_of}
 use Rattle.species_space.specs.Paths.{prefix_at}
 
--- a list: what is kept beside what always is, and what notes are charged. Nothing is charged in a
--- plain one
+-- a list: what is kept beside what always is, what notes are charged, and whether it is a plain one,
+-- which charges nothing
 pub record PriceList : Type 0 where
   pub keeps : Keeps
-  pub charges : Option Charges
+  pub charges : Charges
+  pub plain : Bool
 
 -- ---- prefixes by the numbers of their columns
 
@@ -49,30 +49,25 @@ least_on ex sheet path = least_of ex sheet (prefix_at ex path)
 abbrev pub case_in : Exercise → Charges → ℕ → Case
 case_in ex charges = case_of (toll_in ex charges) (reaches_in ex charges) (rate_in ex charges)
 
--- the sum in a list that charges: the least over its cases; none where none of them has one
-unfoldable pub charged_sum : Exercise → Sheet → Keeps → Charges → List ℕ → Option ℕ
-charged_sum ex sheet keeps charges path =
-    least_below (λ k. sum_in_case (columns_in ex) (kept_of ex keeps) (paid_on ex sheet) (breadth_of ex)
-    (step_of ex sheet keeps) (case_in ex charges k) path) (length charges.summits.items)
+-- the least of the sums of its cases, where so much is spent; none where none of them has one
+unfoldable pub charged_sum : Exercise → Sheet → Keeps → Charges → ℕ → List ℕ → Option ℕ
+charged_sum ex sheet keeps charges spent path =
+    least_sum (columns_in ex) (kept_of ex keeps []) (breadth_of ex) (step_of ex sheet keeps) (case_in ex charges)
+    (length charges.summits.items) spent path
 
--- the one case of a plain list: nothing is charged, any step comes to what is asked for, and all is
--- counted in units
-abbrev pub plain_case : Case
-plain_case = record { toll = λ i k. Some 0; reaches = λ i k. true; rate = record { scale = 1; debt = 0 } }
+-- what is spent: what is paid, and in a plain list what the lines cost at least too
+abbrev pub spent_by : Bool → ℕ → ℕ → ℕ
+spent_by false paid least = paid
+spent_by true paid least = paid + least
 
--- the sum in a plain list: what is paid, what the lines cost at least, and what is left
-unfoldable pub plain_sum : Exercise → Sheet → Keeps → List ℕ → Option ℕ
-plain_sum ex sheet keeps path =
-    option_map (λ left. paid_on ex sheet path + least_on ex sheet path + left)
-    (rest_of_path (columns_in ex) (kept_of ex keeps) (breadth_of ex) (step_of ex sheet keeps) plain_case path)
-
-abbrev pub sum_with : Exercise → Sheet → Keeps → Option Charges → List ℕ → Option ℕ
-sum_with ex sheet keeps None path = plain_sum ex sheet keeps path
-sum_with ex sheet keeps (Some charges) path = charged_sum ex sheet keeps charges path
+-- the sum in a list of a path
+abbrev pub sum_with : Exercise → Sheet → PriceList → List ℕ → Option ℕ
+sum_with ex sheet list path =
+    charged_sum ex sheet list.keeps list.charges (spent_by list.plain (paid_on ex sheet path) (least_on ex sheet path)) path
 
 -- a list's sum of a prefix
 abbrev pub list_sum : Exercise → Sheet → PriceList → List (List Cell) → Option ℕ
-list_sum ex sheet list p = sum_with ex sheet list.keeps list.charges (path_of ex p)
+list_sum ex sheet list p = sum_with ex sheet list (path_of ex p)
 
 -- the greatest of the sums of all lists, and of a number; none where a list has none
 abbrev pub greatest_sum : Exercise → Sheet → ℕ → List PriceList → List (List Cell) → Option ℕ

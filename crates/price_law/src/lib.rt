@@ -3,8 +3,7 @@
 #![tactic(auto)]
 
 ghost use Rattle.price_law.specs.Certificates.{ListsGiveFloors, SharpCertificatesHold, SharpFloorsHold, TailsGiveFloors};
-ghost use Rattle.price_law.specs.Truths.{TailsTellTruth};
-ghost use Rattle.price_law.specs.WebRests.{NumbersAreRests};
+ghost use Rattle.price_law.specs.Truths.{TailsTellFirst, TailsTellTruth};
 
 /// A law, and nothing to run: where what is charged is due, no lawful setting that goes on from a
 /// prefix costs less than a list's sum of the prefix, nor than the greatest of the sums of all
@@ -20,21 +19,16 @@ pub fn tails_give_floors()
     ensures { TailsGiveFloors }
 {}
 
-/// A law, and nothing to run: what tells, of a prefix's tail, whether a claim is true tells by the
-/// tail that lists give it whether the claim is true by the lists. So one judge serves all forms.
+/// A law, and nothing to run: what tells, of a prefix's tail, whether a claim is true, or which is
+/// the first true one, tells by the tail that lists give it whether the claim is true by the lists,
+/// or which is the first. So one judge serves all forms.
 pub fn tails_tell_truth()
-    ensures { TailsTellTruth }
+    ensures truth { TailsTellTruth }
+    ensures first { TailsTellFirst }
 {}
 
 /// A law, and nothing to run: what the head of a valid certificate says holds. Its setting is the
 /// best one and has its penalty, or no setting is lawful.
 pub fn shown_by_prices()
     ensures { SharpCertificatesHold }
-{}
-
-/// A law, and nothing to run: in a web whose edges cost exactly what their steps do, the least
-/// number of a node in a case is the least sum of what is left from what is kept there on. So a
-/// certificate says the same of whatever web its numbers are worked in.
-pub fn numbers_are_rests()
-    ensures { NumbersAreRests }
 {}

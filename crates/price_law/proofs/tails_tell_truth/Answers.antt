@@ -1,5 +1,8 @@
 use Rattle.price_law.proofs.TailTruths as truths
 use Rattle.price_law.proofs.tails_tell_truth.Goals as goal
 
-pub returns : goal.returns
-returns c = truths.tails_tell_truth
+pub returns-clause-truth : goal.returns-clause-truth
+returns-clause-truth c = truths.tails_tell_truth
+
+pub returns-clause-first : goal.returns-clause-first
+returns-clause-first c = truths.tails_tell_first

@@ -1,0 +1,3 @@
+pub mod RestLaws
+pub mod WebRests
+pub mod SpotRests

@@ -1,0 +1,2 @@
+pub mod LeastRests
+pub mod Stands
