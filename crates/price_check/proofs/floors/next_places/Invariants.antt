@@ -1,0 +1,13 @@
+use Rattle.std.proofs.Common.{◌≡◌, ◌<◌, ◌++◌, ◌∷◌, ℕ, [], List, None, Some, length, slice_get, slice_index_or}
+use Rattle.price_check.specs.declared.floors.ListFloor.{ListFloor}
+use Rattle.price_check.specs.Floors.{StandsIn}
+use Rattle.price_check.proofs.floors.next_places.Given as goal
+
+-- so far each place is where a path stands with a step more
+abbrev pub invariant-loop-j : goal.invariant-loop-j
+invariant-loop-j l = record {
+  long : length l.next ≡ 8;
+  are : (k : ℕ) → k < l.j → (floor : ListFloor) → slice_get l.floors k ≡ Some floor → (path : List ℕ)
+      → StandsIn floor (slice_index_or l.places k None) path
+      → StandsIn floor (slice_index_or l.next k None) (path ++ l.number ∷ []);
+}
