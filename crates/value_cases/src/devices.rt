@@ -92,7 +92,7 @@ fn whole_of<F: Shelf>(
 }
 
 /// Files and limits, and the most bytes that a read gives.
-const FILES: &str = "\
+pub const FILES: &str = "\
 empty within 0 in pieces of 16384 = 0 bytes
 long within 40000 in pieces of 16384 = 40000 bytes
 long within 39999 in pieces of 16384 = TooLong
@@ -111,7 +111,7 @@ fn shelf_of(alloc: Global, piece: usize, fail_at: &[u64]) -> Result<MemShelf, Fa
     Ok(shelf)
 }
 
-fn file_of(alloc: Global, case: &str) -> Result<String, Fail> {
+pub fn file_of(alloc: Global, case: &str) -> Result<String, Fail> {
     let limit = word(case, 2)?.parse::<usize>()?;
     let piece = word(case, 6)?.parse::<usize>()?;
     let fail_at: &[u64] = if case.ends_with("the second fails") {
@@ -121,11 +121,6 @@ fn file_of(alloc: Global, case: &str) -> Result<String, Fail> {
     };
     let mut shelf = shelf_of(alloc, piece.max(1), fail_at)?;
     whole_of(alloc, &mut shelf, word(case, 0)?, limit)
-}
-
-#[test]
-fn whole_files_within_the_limit_are_read(rt: HostRuntime) -> Result<(), Fail> {
-    compare(&rt, rt.alloc(), FILES, file_of)
 }
 
 #[test]
@@ -160,7 +155,7 @@ fn a_sink_takes_what_it_has_room_for(rt: HostRuntime) -> Result<(), Fail> {
 }
 
 /// Twenty bytes into pieces of sixteen, where the write of a number fails.
-const FRONTS: &str = "\
+pub const FRONTS: &str = "\
 no write fails = 20 bytes, 'twenty bytes in all!'
 2 fails = failed, 'twenty bytes in '
 1 fails = failed, ''";
@@ -173,7 +168,7 @@ fn written(alloc: Global, sink: &mut MemSink, bytes: &[u8]) -> Result<String, Fa
     }
 }
 
-fn front_of(alloc: Global, case: &str) -> Result<String, Fail> {
+pub fn front_of(alloc: Global, case: &str) -> Result<String, Fail> {
     let fail_at: &[u64] = match case {
         "1 fails" => &[1],
         "2 fails" => &[2],
@@ -181,11 +176,6 @@ fn front_of(alloc: Global, case: &str) -> Result<String, Fail> {
     };
     let mut sink = MemSink::new(alloc, 100, 16, fail_at)?;
     written(alloc, &mut sink, b"twenty bytes in all!")
-}
-
-#[test]
-fn a_write_that_fails_leaves_a_front(rt: HostRuntime) -> Result<(), Fail> {
-    compare(&rt, rt.alloc(), FRONTS, front_of)
 }
 
 fn reads(host: &HostRuntime, name: &str) -> bool {

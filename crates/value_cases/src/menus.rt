@@ -2,7 +2,7 @@
 
 ghost use Rattle.fux_grid.specs.Exercises.{IsValid};
 
-use crate::tables::{compare, number};
+use crate::tables::number;
 use fux_grid::{Cell, Column, Exercise, MenuFault, can_start, is_free, menu, range, width};
 use short_scores::{any_exercise_of, exercise_of};
 use std::alloc::Global;
@@ -55,7 +55,7 @@ fn shown(alloc: Global, columns: &[Column]) -> Result<String, Fail> {
 
 /// Numbers of columns of the small exercise, and their menus, each column behind a space. In the
 /// last two bars there is C#5 too.
-const MENUS: &str = "\
+pub const MENUS: &str = "\
 column 0 =  +D4+A4 +D4+Bb4 +D4+B4 +D4+C5 +D4+D5
 column 1 =  -D4-A4 -D4-Bb4 -D4-B4 -D4-C5 -D4-D5
 column 7 =  -D4-A4 -D4-Bb4 -D4-B4 -D4-C5 -D4-D5
@@ -72,24 +72,21 @@ fn menu_text(alloc: Global, ex: &Exercise, i: usize) -> Result<String, Fail>
     shown(alloc, &columns)
 }
 
-fn menu_at(alloc: Global, case: &str) -> Result<String, Fail> {
+pub fn menu_at(alloc: Global, case: &str) -> Result<String, Fail> {
     let i = usize::from(number(case, 1)?);
     let ex = exercise_of(alloc, SMALL, 2)?;
     is_shared(&ex);
     menu_text(alloc, &ex, i)
 }
 
-#[test]
-fn lists_the_menus_of_a_small_exercise(rt: HostRuntime) -> Result<(), Fail> {
-    compare(&rt, rt.alloc(), MENUS, menu_at)
-}
-
 /// How many columns a menu has, with the first and the last of them.
 fn ends(alloc: Global, columns: &[Column]) -> Result<String, Fail> {
     let mut text = format!(in alloc; "{} columns", columns.len())?;
-    if !columns.is_empty() {
-        add_column(&mut text, &columns[0])?;
-        add_column(&mut text, &columns[columns.len() - 1])?;
+    if let Some(first) = columns.first() {
+        add_column(&mut text, first)?;
+    }
+    if let Some(last) = columns.last() {
+        add_column(&mut text, last)?;
     }
     Ok(text)
 }
@@ -106,12 +103,12 @@ fn first_menu(alloc: Global, ex: &Exercise) -> Result<String, Fail>
 }
 
 /// How wide the first menu of an exercise would be, and what is said of it.
-const WIDTHS: &str = "\
+pub const WIDTHS: &str = "\
 whole = width 8192, 8192 columns +C1+C3+C4+C3 +B4+B4+C4+B4
 wider = width 8448, too wide, 8448
 sharp = width 0, 0 columns";
 
-fn width_of(alloc: Global, case: &str) -> Result<String, Fail> {
+pub fn width_of(alloc: Global, case: &str) -> Result<String, Fail> {
     let text = match case {
         "whole" => WIDE,
         "wider" => WIDER,
@@ -120,11 +117,6 @@ fn width_of(alloc: Global, case: &str) -> Result<String, Fail> {
     let ex = exercise_of(alloc, text, 4)?;
     let menu = first_menu(alloc, &ex)?;
     Ok(format!(in alloc; "width {}, {menu}", width(&ex, 0))?)
-}
-
-#[test]
-fn refuses_a_menu_that_is_too_wide(rt: HostRuntime) -> Result<(), Fail> {
-    compare(&rt, rt.alloc(), WIDTHS, width_of)
 }
 
 /// The wide exercise in second species, and with one key alone, D#3, which no gamut has.
@@ -141,7 +133,7 @@ range 1 D#3 D#3
 range 3 D#3 D#3";
 
 /// Voices of that exercise and columns, and whether all voices from that one on can start there.
-const STARTS: &str = "\
+pub const STARTS: &str = "\
 voice 3 at column 0 = true
 voice 3 at column 4 = true
 voice 3 at column 1 = false
@@ -159,7 +151,7 @@ fn start_at(ex: &Exercise, voice: u8, column: u8) -> bool
     voice < ex.voices && i < 8 * usize::from(ex.bars) && can_start(ex, voice, i)
 }
 
-fn starts(alloc: Global, case: &str) -> Result<String, Fail> {
+pub fn starts(alloc: Global, case: &str) -> Result<String, Fail> {
     let (voice, column) = (number(case, 1)?, number(case, 4)?);
     let text = if case.ends_with("D#3") { SHARP } else { SECOND };
     let ex = exercise_of(alloc, text, 4)?;
@@ -171,11 +163,6 @@ fn starts(alloc: Global, case: &str) -> Result<String, Fail> {
     Ok(String::from_str(alloc, can)?)
 }
 
-#[test]
-fn starts_only_where_all_voices_have_a_cell(rt: HostRuntime) -> Result<(), Fail> {
-    compare(&rt, rt.alloc(), STARTS, starts)
-}
-
 /// Ranges of bars, of which the last one that covers a bar counts.
 const RANGES: &str = "dorian 1 1 0
 cantus D4 E4 D4
@@ -184,7 +171,7 @@ range 1 A4 C5 2 3
 range 1 B4 C5 2 2";
 
 /// Bars of that exercise, and the range of voice 1 in each.
-const BARS: &str = "\
+pub const BARS: &str = "\
 bar 1 = from A4 to D5
 bar 2 = from B4 to C5
 bar 3 = from A4 to C5";
@@ -199,15 +186,10 @@ fn range_text(alloc: Global, ex: &Exercise, bar: u8) -> Result<String, Fail>
     Ok(format!(in alloc; "from {low} to {high}")?)
 }
 
-fn range_in(alloc: Global, case: &str) -> Result<String, Fail> {
+pub fn range_in(alloc: Global, case: &str) -> Result<String, Fail> {
     let bar = number(case, 1)?;
     let ex = exercise_of(alloc, RANGES, 2)?;
     range_text(alloc, &ex, bar)
-}
-
-#[test]
-fn finds_the_last_range_that_covers_a_bar(rt: HostRuntime) -> Result<(), Fail> {
-    compare(&rt, rt.alloc(), BARS, range_in)
 }
 
 /// A line in second species above D4 E4 F4 E4 D4, of which some cells are given.
@@ -222,7 +204,7 @@ given 1 4 _ ? ? ? +B4 ? ? ?";
 /// Columns of that exercise, and their menus. Nothing is given of the second bar; a rest in the
 /// third bar and a tie from it are given, for which second species has no cell; the note that
 /// begins within the fourth bar may go on in any way.
-const GIVEN_MENUS: &str = "\
+pub const GIVEN_MENUS: &str = "\
 column 0 =  +D4r
 column 1 =  -D4r -D4-A4 -D4-Bb4 -D4-B4 -D4-C5
 column 4 =  -D4+A4
@@ -235,7 +217,7 @@ column 28 =  -E4+B4
 column 29 =  -E4-A4 -E4-Bb4 -E4-B4 -E4-C5
 column 32 =  +D4+A4 +D4+Bb4 +D4+B4 +D4+C5";
 
-fn given_menu(alloc: Global, case: &str) -> Result<String, Fail> {
+pub fn given_menu(alloc: Global, case: &str) -> Result<String, Fail> {
     let ex = exercise_of(alloc, GIVEN, 2)?;
     let menu = menu_text(alloc, &ex, usize::from(number(case, 1)?))?;
     if menu.is_empty() {
@@ -244,15 +226,10 @@ fn given_menu(alloc: Global, case: &str) -> Result<String, Fail> {
     Ok(menu)
 }
 
-#[test]
-fn keeps_the_cells_that_fit_what_is_given(rt: HostRuntime) -> Result<(), Fail> {
-    compare(&rt, rt.alloc(), GIVEN_MENUS, given_menu)
-}
-
 /// Given bars that fit no exercise of that cantus firmus, and one that does: of the cantus, of no
 /// bar, twice the same bar, a held pitch behind a blank, a tie within the bar, a tie at its
 /// beginning.
-const GIVEN_BARS: &str = "\
+pub const GIVEN_BARS: &str = "\
 0 1 ? ? ? ? ? ? ? ? = refused
 1 6 ? ? ? ? ? ? ? ? = refused
 1 0 ? ? ? ? ? ? ? ? = refused
@@ -262,7 +239,7 @@ const GIVEN_BARS: &str = "\
 1 4 +A4 -B4 ? ? ? ? ? ? = refused
 1 4 _ _ _ _ +A4 -A4 ? ? = taken";
 
-fn given_line(alloc: Global, case: &str) -> Result<String, Fail> {
+pub fn given_line(alloc: Global, case: &str) -> Result<String, Fail> {
     let text = format!(in alloc;
         "dorian 2 1 0
 cantus D4 E4 F4 E4 D4
@@ -277,9 +254,4 @@ given {case}"
         "refused"
     };
     Ok(String::from_str(alloc, answer)?)
-}
-
-#[test]
-fn takes_given_bars_that_fit_the_exercise(rt: HostRuntime) -> Result<(), Fail> {
-    compare(&rt, rt.alloc(), GIVEN_BARS, given_line)
 }

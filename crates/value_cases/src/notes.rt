@@ -39,7 +39,7 @@ fn line(alloc: Global) -> Result<Score, Fail> {
 
 /// Columns of that line, with the note that sounds there, the one before it and the one behind it:
 /// where each begins, and how many columns it has.
-const NOTES: &str = "\
+pub const NOTES: &str = "\
 column 0 = silent, at none, before none, after 2+8
 column 2 = sounds, at 2+8, before none, after 10+2
 column 9 = sounds, at 2+8, before none, after 10+2
@@ -68,14 +68,14 @@ fn notes_text(alloc: Global, score: &Score, i: usize) -> Result<String, Fail> {
     Ok(text)
 }
 
-fn notes_at(alloc: Global, case: &str) -> Result<String, Fail> {
+pub fn notes_at(alloc: Global, case: &str) -> Result<String, Fail> {
     let i = usize::from(number(case, 1)?);
     let score = line(alloc)?;
     notes_text(alloc, &score, i)
 }
 
 /// Bars of that line, and their letters.
-const SHAPES: &str = "\
+pub const SHAPES: &str = "\
 bar 1 = RRSHHHHH
 bar 2 = HHSHRRSS";
 
@@ -87,16 +87,10 @@ fn shape_text(alloc: Global, score: &Score, bar: u8) -> Result<String, Fail> {
     Ok(String::from_str(alloc, str::from_utf8(&letters)?)?)
 }
 
-fn shape_of(alloc: Global, case: &str) -> Result<String, Fail> {
+pub fn shape_of(alloc: Global, case: &str) -> Result<String, Fail> {
     let bar = number(case, 1)?;
     let score = line(alloc)?;
     shape_text(alloc, &score, bar)
-}
-
-#[test]
-fn finds_the_notes_of_a_line(rt: HostRuntime) -> Result<(), Fail> {
-    compare(&rt, rt.alloc(), NOTES, notes_at)?;
-    compare(&rt, rt.alloc(), SHAPES, shape_of)
 }
 
 /// The cell of a word: `r`, `default`, or a pitch behind `+` where it starts and behind `-` where
@@ -181,7 +175,7 @@ fn names_the_lowest_voice_at_fault(rt: HostRuntime) -> Result<(), Fail> {
 /// Columns in reading order: by the lowest voice, its kind of cell, its key, its degree, and then
 /// by the voice above. Each has a sign for each of them, `<` where that one is later, `=` where it
 /// is the same, `>` where it is earlier.
-const ASCENDING: &str = "\
+pub const ASCENDING: &str = "\
 r +D4 = =<<<<<
 -C#4 r = >=<<<<
 -C#4 -D4 = >>=<<<
@@ -200,16 +194,11 @@ fn sign(here: &Column, other: &Column) -> char
     }
 }
 
-fn orders(alloc: Global, case: &str) -> Result<String, Fail> {
+pub fn orders(alloc: Global, case: &str) -> Result<String, Fail> {
     let here = column(case)?;
     let mut signs = String::new(alloc);
     for line in ASCENDING.lines() {
         signs.push(sign(&here, &column(line)?))?;
     }
     Ok(signs)
-}
-
-#[test]
-fn compares_the_lowest_voice_first(rt: HostRuntime) -> Result<(), Fail> {
-    compare(&rt, rt.alloc(), ASCENDING, orders)
 }

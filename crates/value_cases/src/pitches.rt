@@ -3,7 +3,7 @@
 ghost use Rattle.std.specs.Prelude.{pos, negsuc, ◌≤ℤ◌, ◌<◌};
 
 use crate::menus::is_shared;
-use crate::tables::{compare, number, word};
+use crate::tables::{number, word};
 use fux_pitch::{
     AnyList, Interval, Label, List, Memory, Mode, Pitch, final_letter, in_gamut, interval_of,
     is_consonant, is_imperfect, is_perfect, leading, name, parse_pitch, reduce, semitone, spell,
@@ -19,7 +19,7 @@ fn signed(case: &str, place: usize) -> Result<i8, Fail> {
 }
 
 /// Degrees with alterations, and the keys of those that are pitches.
-const KEYS: &str = "\
+pub const KEYS: &str = "\
 degree 7 altered by 0 = key 24
 degree 28 altered by 0 = key 60
 degree 28 altered by 1 = key 61
@@ -38,16 +38,11 @@ degree 28 altered by 2 = no pitch
 degree 28 altered by -2 = no pitch
 degree 255 altered by 0 = no pitch";
 
-fn key_of(alloc: Global, case: &str) -> Result<String, Fail> {
+pub fn key_of(alloc: Global, case: &str) -> Result<String, Fail> {
     match Pitch::new(number(case, 1)?, signed(case, 4)?) {
         Some(pitch) => Ok(format!(in alloc; "key {}", semitone(pitch))?),
         None => Ok(String::from_str(alloc, "no pitch")?),
     }
-}
-
-#[test]
-fn pitches_have_keys(rt: HostRuntime) -> Result<(), Fail> {
-    compare(&rt, rt.alloc(), KEYS, key_of)
 }
 
 /// A pitch, and its name.
@@ -61,7 +56,7 @@ fn told(alloc: Global, pitch: Option<Pitch>) -> Result<String, Fail> {
 }
 
 /// Keys, and what they are spelled as.
-const SPELLINGS: &str = "\
+pub const SPELLINGS: &str = "\
 key 24 = C1, degree 7 altered by 0
 key 60 = C4, degree 28 altered by 0
 key 61 = C#4, degree 28 altered by 1
@@ -83,17 +78,12 @@ key 23 = no pitch
 key 97 = no pitch
 key 255 = no pitch";
 
-fn spelling_of(alloc: Global, case: &str) -> Result<String, Fail> {
+pub fn spelling_of(alloc: Global, case: &str) -> Result<String, Fail> {
     told(alloc, spell(number(case, 1)?))
 }
 
-#[test]
-fn keys_are_spelled(rt: HostRuntime) -> Result<(), Fail> {
-    compare(&rt, rt.alloc(), SPELLINGS, spelling_of)
-}
-
 /// Texts in quotes, and the pitches that they name.
-const NAMES: &str = "\
+pub const NAMES: &str = "\
 'C1' = C1, degree 7 altered by 0
 'Bb2' = Bb2, degree 20 altered by -1
 'A3' = A3, degree 26 altered by 0
@@ -120,20 +110,14 @@ const NAMES: &str = "\
 'C44' = no pitch
 'Cn4' = no pitch";
 
-fn named(alloc: Global, case: &str) -> Result<String, Fail> {
+pub fn named(alloc: Global, case: &str) -> Result<String, Fail> {
     told(alloc, parse_pitch(case.trim_matches('\'').as_bytes()))
 }
 
 /// A pitch in four columns, and as it is.
-fn twice(alloc: Global, case: &str) -> Result<String, Fail> {
+pub fn twice(alloc: Global, case: &str) -> Result<String, Fail> {
     let pitch = pitch_of(case)?;
     Ok(format!(in alloc; "{pitch:>4} and {pitch}")?)
-}
-
-#[test]
-fn pitches_have_names(rt: HostRuntime) -> Result<(), Fail> {
-    compare(&rt, rt.alloc(), NAMES, named)?;
-    compare(&rt, rt.alloc(), "C4 =   C4 and C4", twice)
 }
 
 /// An interval, as `7 degrees, 12 semitones`.
@@ -143,7 +127,7 @@ fn interval_text(alloc: Global, size: Interval) -> Result<String, Fail> {
 }
 
 /// Intervals, and what they are reduced to.
-const REDUCED: &str = "\
+pub const REDUCED: &str = "\
 0 degrees, 0 semitones = 0 degrees, 0 semitones
 7 degrees, 12 semitones = 0 degrees, 0 semitones
 9 degrees, 16 semitones = 2 degrees, 4 semitones
@@ -164,13 +148,8 @@ fn reduced_text(alloc: Global, degrees: i8, semitones: i8) -> Result<String, Fai
     interval_text(alloc, size)
 }
 
-fn reduced(alloc: Global, case: &str) -> Result<String, Fail> {
+pub fn reduced(alloc: Global, case: &str) -> Result<String, Fail> {
     reduced_text(alloc, signed(case, 0)?, signed(case, 2)?)
-}
-
-#[test]
-fn intervals_are_reduced(rt: HostRuntime) -> Result<(), Fail> {
-    compare(&rt, rt.alloc(), REDUCED, reduced)
 }
 
 /// What an interval is: `p` a perfect consonance, `i` an imperfect one, `f` consonant but with the
@@ -210,7 +189,7 @@ fn class_of_all(degrees: u8, semitones: u8) -> char
 }
 
 /// Numbers of degrees, and what the intervals with 0 to 15 semitones are.
-const CLASSES: &str = "\
+pub const CLASSES: &str = "\
 0 degrees = p...............
 1 degrees = ................
 2 degrees = ...ii...........
@@ -219,7 +198,7 @@ const CLASSES: &str = "\
 5 degrees = ........ii......
 6 degrees = ................";
 
-fn classes_of(alloc: Global, case: &str) -> Result<String, Fail> {
+pub fn classes_of(alloc: Global, case: &str) -> Result<String, Fail> {
     let degrees = number(case, 0)?;
     let mut classes = String::new(alloc);
     for semitones in 0..16 {
@@ -228,13 +207,8 @@ fn classes_of(alloc: Global, case: &str) -> Result<String, Fail> {
     Ok(classes)
 }
 
-#[test]
-fn intervals_have_classes(rt: HostRuntime) -> Result<(), Fail> {
-    compare(&rt, rt.alloc(), CLASSES, classes_of)
-}
-
 /// Two pitches, and the interval from the first to the second.
-const BETWEEN: &str = "\
+pub const BETWEEN: &str = "\
 from C4 to E4 = 2 degrees, 4 semitones
 from E4 to C4 = -2 degrees, -4 semitones
 from B#3 to C4 = 1 degrees, 0 semitones
@@ -242,18 +216,13 @@ from F4 to B4 = 3 degrees, 6 semitones
 from B4 to F5 = 4 degrees, 6 semitones
 from C1 to C7 = 42 degrees, 72 semitones";
 
-fn between(alloc: Global, case: &str) -> Result<String, Fail> {
+pub fn between(alloc: Global, case: &str) -> Result<String, Fail> {
     let (from, to) = (pitch_of(word(case, 1)?)?, pitch_of(word(case, 3)?)?);
     interval_text(alloc, interval_of(from, to))
 }
 
-#[test]
-fn intervals_lie_between_pitches(rt: HostRuntime) -> Result<(), Fail> {
-    compare(&rt, rt.alloc(), BETWEEN, between)
-}
-
 /// Modes, their last letter, and the letter before it with its alteration.
-const FINALS: &str = "\
+pub const FINALS: &str = "\
 dorian = final 1, leading 0 altered by 1
 phrygian = final 2, leading 1 altered by 0
 lydian = final 3, leading 2 altered by 0
@@ -261,7 +230,7 @@ mixolydian = final 4, leading 3 altered by 1
 aeolian = final 5, leading 4 altered by 1
 ionian = final 0, leading 6 altered by 0";
 
-fn final_of(alloc: Global, case: &str) -> Result<String, Fail> {
+pub fn final_of(alloc: Global, case: &str) -> Result<String, Fail> {
     let mode = mode_of(case)?;
     let (last, (before, alter)) = (final_letter(mode), leading(mode));
     Ok(format!(in alloc; "final {last}, leading {before} altered by {alter}")?)
@@ -269,7 +238,7 @@ fn final_of(alloc: Global, case: &str) -> Result<String, Fail> {
 
 /// Modes and bars of eight, and the pitches of the gamut from C4 on, of all that are sharp, flat or
 /// neither.
-const GAMUTS: &str = "\
+pub const GAMUTS: &str = "\
 dorian in the bars 1 to 6 = C4 D4 E4 F4 G4 A4 Bb4 B4
 dorian in the bars 7 to 8 = C4 C#4 D4 E4 F4 G4 A4 Bb4 B4
 phrygian in the bars 1 to 8 = C4 D4 E4 F4 G4 A4 Bb4 B4
@@ -315,15 +284,9 @@ fn common_gamut(alloc: Global, mode: Mode, first: u8, last: u8) -> Result<String
     Ok(String::from_str(alloc, names.as_str().trim_start())?)
 }
 
-fn gamut_of(alloc: Global, case: &str) -> Result<String, Fail> {
+pub fn gamut_of(alloc: Global, case: &str) -> Result<String, Fail> {
     let mode = mode_of(word(case, 0)?)?;
     common_gamut(alloc, mode, number(case, 4)?, number(case, 6)?)
-}
-
-#[test]
-fn modes_have_gamuts(rt: HostRuntime) -> Result<(), Fail> {
-    compare(&rt, rt.alloc(), FINALS, final_of)?;
-    compare(&rt, rt.alloc(), GAMUTS, gamut_of)
 }
 
 /// One item, or the answer for want of memory, whichever of its two forms std gives.
@@ -333,26 +296,29 @@ fn list_of(alloc: Global) -> Result<Vec<u8>, Memory> {
     Ok(items)
 }
 
-/// A list and a label.
-fn made(alloc: Global) -> Result<(List<u8>, Label), Memory> {
-    Ok((
-        List::new(list_of(alloc)?),
-        Label::new(String::from_str(alloc, "C4")?),
-    ))
+/// Whether a list holds what it is made of, as it is and lent.
+fn lists_hold(alloc: Global) -> Result<bool, Memory> {
+    let list = List::new(list_of(alloc)?);
+    is_shared(&list);
+    let owned = AnyList::new(list_of(alloc)?);
+    is_shared(&owned);
+    let lent = owned.lend();
+    is_shared(&lent);
+    let wanted = [7].as_slice();
+    Ok(list.as_slice() == wanted && owned.as_slice() == wanted && lent.as_slice() == wanted)
+}
+
+/// Whether a label holds what it is made of.
+fn labels_hold(alloc: Global) -> Result<bool, Memory> {
+    let label = Label::new(String::from_str(alloc, "C4")?);
+    is_shared(&label);
+    Ok(label.as_str() == "C4")
 }
 
 /// Threads may share the values.
 #[test]
 fn lists_and_labels_hold_what_they_are_made_of(rt: HostRuntime) -> Result<(), Fail> {
-    let (list, label) = made(rt.alloc())?;
-    assert!(rt; list.as_slice() == [7].as_slice() && label.as_str() == "C4");
-    is_shared(&list);
-    is_shared(&label);
-    let owned = AnyList::new(list_of(rt.alloc())?);
-    let lent = owned.lend();
-    assert!(rt; owned.as_slice() == [7].as_slice() && lent.as_slice() == [7].as_slice());
-    is_shared(&owned);
-    is_shared(&lent);
+    assert!(rt; lists_hold(rt.alloc())? && labels_hold(rt.alloc())?);
     is_shared(&spell(60));
     is_shared(&interval_of(pitch_of("C4")?, pitch_of("D4")?));
     is_shared(&Mode::Dorian);

@@ -1,0 +1,96 @@
+//! The tables, and which function answers the cases of each.
+
+use crate::tables::compare;
+use crate::{devices, menus, mixed, notes, pitches};
+use std::alloc::Global;
+use std::test::Fail;
+
+/// What a table asks.
+#[derive(Clone, Copy)]
+enum Asked {
+    Key,
+    Spelling,
+    Name,
+    Twice,
+    Reduced,
+    Class,
+    Between,
+    Final,
+    Gamut,
+    Note,
+    Shape,
+    Order,
+    Menu,
+    Width,
+    Start,
+    Range,
+    GivenMenu,
+    GivenBar,
+    Mixed,
+    File,
+    Front,
+}
+
+const TABLES: [(Asked, &str); 21] = [
+    (Asked::Key, pitches::KEYS),
+    (Asked::Spelling, pitches::SPELLINGS),
+    (Asked::Name, pitches::NAMES),
+    (Asked::Twice, "C4 =   C4 and C4"),
+    (Asked::Reduced, pitches::REDUCED),
+    (Asked::Class, pitches::CLASSES),
+    (Asked::Between, pitches::BETWEEN),
+    (Asked::Final, pitches::FINALS),
+    (Asked::Gamut, pitches::GAMUTS),
+    (Asked::Note, notes::NOTES),
+    (Asked::Shape, notes::SHAPES),
+    (Asked::Order, notes::ASCENDING),
+    (Asked::Menu, menus::MENUS),
+    (Asked::Width, menus::WIDTHS),
+    (Asked::Start, menus::STARTS),
+    (Asked::Range, menus::BARS),
+    (Asked::GivenMenu, menus::GIVEN_MENUS),
+    (Asked::GivenBar, menus::GIVEN_BARS),
+    (Asked::Mixed, mixed::MIXED),
+    (Asked::File, devices::FILES),
+    (Asked::Front, devices::FRONTS),
+];
+
+/// What is answered of a case.
+fn answer(alloc: Global, asked: Asked, case: &str) -> Result<String, Fail> {
+    match asked {
+        Asked::Key => pitches::key_of(alloc, case),
+        Asked::Spelling => pitches::spelling_of(alloc, case),
+        Asked::Name => pitches::named(alloc, case),
+        Asked::Twice => pitches::twice(alloc, case),
+        Asked::Reduced => pitches::reduced(alloc, case),
+        Asked::Class => pitches::classes_of(alloc, case),
+        Asked::Between => pitches::between(alloc, case),
+        Asked::Final => pitches::final_of(alloc, case),
+        Asked::Gamut => pitches::gamut_of(alloc, case),
+        Asked::Note => notes::notes_at(alloc, case),
+        Asked::Shape => notes::shape_of(alloc, case),
+        Asked::Order => notes::orders(alloc, case),
+        Asked::Menu => menus::menu_at(alloc, case),
+        Asked::Width => menus::width_of(alloc, case),
+        Asked::Start => menus::starts(alloc, case),
+        Asked::Range => menus::range_in(alloc, case),
+        Asked::GivenMenu => menus::given_menu(alloc, case),
+        Asked::GivenBar => menus::given_line(alloc, case),
+        Asked::Mixed => mixed::mixed_of(alloc, case),
+        Asked::File => devices::file_of(alloc, case),
+        Asked::Front => devices::front_of(alloc, case),
+    }
+}
+
+#[test]
+fn worked_values_stand(rt: HostRuntime) -> Result<(), Fail> {
+    for (asked, table) in TABLES {
+        compare(
+            &rt,
+            rt.alloc(),
+            table,
+            |alloc, case| answer(alloc, asked, case),
+        )?;
+    }
+    Ok(())
+}
