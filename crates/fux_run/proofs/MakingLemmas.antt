@@ -1,6 +1,6 @@
 -- How a run ends that makes something and then writes it (`made_written`, `made_cut`, `not_made`), and
 -- that nothing is to be told of causes where no such class is reported (`no_causes`).
-use Rattle.std.proofs.Common.{◌≡◌, ℕ, List, Option, Result, Ok, Err, length, refl, sym, subst}
+use Rattle.std.proofs.Common.{◌≡◌, ℕ, List, Option, Result, Ok, Err, OnOk, length, refl, sym, subst}
 use Rattle.fux_port.specs.Written.{StopsShort, appended}
 use Rattle.command_words.specs.Commands.{Task, making_task}
 use Rattle.command_words.specs.declared.command.Making.{Making}
@@ -32,6 +32,11 @@ module _ (task : Task) (files : Files) (rose : Type 0) (cut : ℕ → Type 0) (o
   not_made OutOfMemory same made = same
   not_made Usage same made = made
   not_made Unwritable same made = absurd made
+
+-- what is to be told of nothing
+pub each_end : {A E : Type 0} (result : Result A E) → OnOk result (Unit {0})
+each_end (Ok answer) = tt
+each_end (Err fault) = tt
 
 pub no_causes : {A E : Type 0} (making : Making) (files : Files) (rose : Type 0) (Holds : A → Output → Type 0)
     (result : Result A E) → IsOfCauses (making_task making) files rose Holds result

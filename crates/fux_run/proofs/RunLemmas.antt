@@ -2,7 +2,7 @@
 -- `run`.
 use Rattle.std.proofs.Common.{◌≡◌, ◌≢◌, ℕ, ◌<◌, List, [], All, Contains, Option, None, Some, Result, Ok, Err, ◌⊎◌, inl, inr, refl, sym, ◌∙◌, ap, subst, codes, length, arith}
 use Rattle.std.proofs.lemmas.List.Elements.{All-contains}
-use Rattle.std.specs.Prelude.{IfErr}
+use Rattle.std.specs.Prelude.{IfErr, OnOk}
 use Rattle.fux_port.specs.Files.{HasFile, IsMissing}
 use Rattle.fux_port.specs.Promises.{Reads}
 use Rattle.works.specs.declared.complaint.Complaint.{Complaint}
@@ -50,6 +50,12 @@ pub ran_causes : (list : List ℕ) (lesson : Option (List ℕ)) (files : Files) 
 ran_causes list lesson files rose Holds (Ok verdict) code status done told = told
 ran_causes list lesson files rose Holds (Err complaint) code status done told =
     absurd (done_is_none code complaint done status)
+
+-- what holds of a run that wrote its output
+pub ran_near : {Such : Type 0} (result : Result Verdict Complaint) (code : ℕ)
+    → code ≡ code_of (result_status result) → IsDone code → OnOk result Such → Such
+ran_near (Ok verdict) code status done such = such
+ran_near (Err complaint) code status done such = absurd (done_is_none code complaint done status)
 
 -- so many bytes could not be written
 abbrev HasCut : (ℕ → Type 0) → Type 0

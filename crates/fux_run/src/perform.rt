@@ -1,6 +1,6 @@
 //! The work of a command on its files.
 
-ghost use Rattle.std.specs.Prelude.{◌≡◌, IfErr};
+ghost use Rattle.std.specs.Prelude.{◌≡◌, IfErr, OnOk};
 ghost use Rattle.fux_port.specs.Counts.{Rose};
 ghost use Rattle.fux_port.specs.Written.{appended};
 ghost use Rattle.works.specs.Blame.{Blames, BlamesNoFile, IsUnserved, ServesTask};
@@ -8,6 +8,7 @@ ghost use Rattle.command_words.specs.Commands.{HasHead, HasMidiHead, making_task
 ghost use Rattle.command_words.specs.Commands as tasks;
 ghost use Rattle.works.specs.Endings.{Ended, EndsOn};
 ghost use Rattle.works.specs.Little.{ReadsLittle};
+ghost use Rattle.works.specs.Near.{StopsNear};
 ghost use Rattle.works.specs.Works.{IsOfCauses};
 
 use command_words::{Command, Making};
@@ -33,6 +34,9 @@ pub fn perform<'a, F: Shelf, K: Sink, R: Threads + Sync>(
         (task_of command.entry))) }
     ensures little { ReadsLittle (task_of command.entry) (F.files shelf.old) (F.given shelf.old)
         (F.given shelf.new) }
+    ensures near { OnOk result (StopsNear (task_of command.entry) (F.files shelf.old)
+        (F.given shelf.old) (F.given shelf.new)
+        (λ line. K.written out.new ≡ appended (K.written out.old) line)) }
     ensures causes { IsOfCauses (task_of command.entry) (F.files shelf.old)
         (Rose (F.faults shelf.old) (F.faults shelf.new))
         (λ verdict told. K.written out.new ≡ appended (K.written out.old) told.bytes) result }
@@ -72,6 +76,9 @@ fn perform_making<'a, F: Shelf, K: Sink, R: Threads + Sync>(
         (making_task making.entry))) }
     ensures little { ReadsLittle (making_task making.entry) (F.files shelf.old) (F.given shelf.old)
         (F.given shelf.new) }
+    ensures near { OnOk result (StopsNear (making_task making.entry) (F.files shelf.old)
+        (F.given shelf.old) (F.given shelf.new)
+        (λ line. K.written out.new ≡ appended (K.written out.old) line)) }
     ensures files { F.files shelf.new ≡ F.files shelf.old }
 {
     let output = make(rt, alloc, making, shelf)?;

@@ -1,6 +1,6 @@
 //! The top call.
 
-ghost use Rattle.std.specs.Prelude.{◌≡◌, ◌≢◌, ℕ, ◌<◌, ◌⊎◌, Contains, List, Option, None, Some, IfErr, codes};
+ghost use Rattle.std.specs.Prelude.{◌≡◌, ◌≢◌, ℕ, ◌<◌, ◌⊎◌, Contains, List, Option, None, Some, IfErr, OnOk, codes};
 ghost use Rattle.fux_port.specs.Counts.{Rose};
 ghost use Rattle.fux_port.specs.Files.{IsMissing};
 ghost use Rattle.fux_port.specs.Promises.{Fails, TakesAll};
@@ -12,6 +12,7 @@ ghost use Rattle.fux_run.specs.Tellings.{fux_line};
 ghost use Rattle.fux_run.specs.Runs.{EndedBy, EndsAs, EndsUnread, IsDone, IsStopped, result_line, result_status};
 ghost use Rattle.works.specs.Endings.{EndsOn};
 ghost use Rattle.works.specs.Little.{ReadsLittle};
+ghost use Rattle.works.specs.Near.{StopsNear};
 ghost use Rattle.fux_run.specs.Sinks.{Gets};
 ghost use Rattle.fux_run.specs.Statuses.{code_of};
 ghost use Rattle.works.specs.Works.{AllHave, AreThere, IsOfCauses, IsReadyFor, TellsCauses, Works};
@@ -110,6 +111,12 @@ pub fn run<F: Shelf, K: Sink, E: Sink, R: Threads + Sync>(
         → ReadsLittle task (F.files shelf.old) (F.given shelf.old) (F.given shelf.new) }
     ensures unread { asked (texts words.now) ≡ None → F.given shelf.new ≡ F.given shelf.old }
 
+    // Of a certificate that is refused, no more is read than a piece, 65,536 bytes, beyond the line
+    // by which it is; the line of the verdict on it is what is written.
+    ensures near { (task : Task) → asked (texts words.now) ≡ Some task → IsDone result
+        → StopsNear task (F.files shelf.old) (F.given shelf.old) (F.given shelf.new)
+        (λ line. K.written out.new ≡ appended (K.written out.old) line) }
+
     ensures files { F.files shelf.new ≡ F.files shelf.old }
 {
     let ended = outcome(rt, alloc, words, shelf, out);
@@ -133,6 +140,9 @@ fn outcome<'a, F: Shelf, K: Sink, R: Threads + Sync>(
     ensures little { (task : Task) → asked (texts words.now) ≡ Some task
         → ReadsLittle task (F.files shelf.old) (F.given shelf.old) (F.given shelf.new) }
     ensures unread { asked (texts words.now) ≡ None → F.given shelf.new ≡ F.given shelf.old }
+    ensures near { (task : Task) → asked (texts words.now) ≡ Some task
+        → OnOk result (StopsNear task (F.files shelf.old) (F.given shelf.old) (F.given shelf.new)
+        (λ line. K.written out.new ≡ appended (K.written out.old) line)) }
     ensures causes { (task : Task) → asked (texts words.now) ≡ Some task
         → IsOfCauses task (F.files shelf.old) (Rose (F.faults shelf.old) (F.faults shelf.new))
         (λ verdict told. K.written out.new ≡ appended (K.written out.old) told.bytes) result }

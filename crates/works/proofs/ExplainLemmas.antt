@@ -7,12 +7,10 @@ use Rattle.std.specs.Prelude.{nat_lt, if◌then◌else◌}
 use Rattle.class_marker.specs.Markings.{IsTheText}
 use Rattle.command_words.specs.declared.command.Subject.{Subject}
 use Rattle.fux_grid.specs.declared.exercise.Exercise.{Exercise}
-use Rattle.fux_grid.specs.Exercises.{as_mixed}
 use Rattle.fux_text.specs.Texts.{HasFault}
 use Rattle.mark_evidence.specs.Explanations.{ExplainsBy}
-use Rattle.species_space.specs.Naming.{AreFreelyNamed, all_species_with}
 use Rattle.text_faults.specs.declared.found.FoundFault.{FoundFault}
-use Rattle.text_faults.specs.Below.{AreBelow, AreFrom, lines_judged, lines_read}
+use Rattle.text_faults.specs.Below.{AreBelow, AreFrom, lines_judged}
 use Rattle.text_faults.specs.Explained.{TellsFaults}
 use Rattle.text_lines.specs.Lines.{lines_from}
 use Rattle.text_lines.specs.Utf8.{text_in}

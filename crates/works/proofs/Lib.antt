@@ -19,6 +19,7 @@ pub mod JoinedLemmas
 pub mod LittleLemmas
 pub mod MakeLemmas
 pub mod MixedLemmas
+pub mod NearLemmas
 pub mod NewCantusLemmas
 pub mod ReadBackLemmas
 pub mod WholeLemmas

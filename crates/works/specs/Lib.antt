@@ -20,6 +20,7 @@ pub mod Little
 pub mod Marked
 pub mod MarkedCantus
 pub mod Mixed
+pub mod Near
 pub mod Played
 pub mod ReadBack
 pub mod Rendered

@@ -1,10 +1,12 @@
 //! The command `checkcantus`.
 
-ghost use Rattle.std.specs.Prelude.{◌≡◌, ◌+◌, ◌≤◌, ℕ, List, IfErr};
+ghost use Rattle.std.specs.Prelude.{◌≡◌, ◌+◌, ◌≤◌, ℕ, List, IfErr, IfOk};
+ghost use Rattle.cantus_check.specs.Topics.{cantus_subject};
 ghost use Rattle.fux_port.specs.Counts.{Rose};
 ghost use Rattle.fux_port.specs.Promises.{ServesWhole};
 ghost use Rattle.works.specs.Blame.{Blames, BlamesNoFile, IsReadWithin, IsUnserved, ServesTask};
 ghost use Rattle.works.specs.Little.{ReadsLittle};
+ghost use Rattle.works.specs.Near.{ChecksCantusNear, StopsNear, TellsNear};
 ghost use Rattle.works.specs.CantusChecked.{ChecksCantusBy, ChecksPlan};
 ghost use Rattle.works.specs.Checked.{AnswersWithin, IsUnreadable};
 ghost use Rattle.command_words.specs.Commands.{IsWanted, check_cantus, sheet_named};
@@ -46,6 +48,9 @@ pub fn checked_cantus<'a, F: Shelf>(
     ensures little { ReadsLittle
         (check_cantus wanted certificate.entry.now (sheet_named sheet.entry)) (F.files shelf.old)
         (F.given shelf.old) (F.given shelf.new) }
+    ensures near { IfOk result (λ output. StopsNear
+        (check_cantus wanted certificate.entry.now (sheet_named sheet.entry)) (F.files shelf.old)
+        (F.given shelf.old) (F.given shelf.new) (λ line. output.bytes ≡ line)) }
     ensures files { F.files shelf.new ≡ F.files shelf.old }
 {
     let weights = read_weights(alloc, shelf, sheet)?;
@@ -73,6 +78,9 @@ fn check_over<F: Shelf>(
     ensures served { ServesWhole (F.serves shelf.old) certificate.now 1073741824
         → IfErr result IsReadWithin }
     ensures little { F.given shelf.new ≤ F.given shelf.old + 1073741825 }
+    ensures near { (sheets : List (List ℕ)) → AreContents 65536 (as_list weights.now) sheets
+        → IfOk result (λ output. ChecksCantusNear wanted.now sheets (F.files shelf.old)
+        certificate.now (F.given shelf.old) (F.given shelf.new) (λ line. output.bytes ≡ line)) }
     ensures files { F.files shelf.new ≡ F.files shelf.old }
     ensures faults { F.faults shelf.old ≤ F.faults shelf.new }
 {
@@ -95,6 +103,10 @@ fn check<F: Shelf>(
     ensures served { ServesWhole (F.serves shelf.old) certificate.now 1073741824
         → IfErr result IsReadWithin }
     ensures little { F.given shelf.new ≤ F.given shelf.old + 1073741825 }
+    ensures near { IfOk result (λ output. TellsNear
+        (cantus_subject (plan_of wanted.now priced.now.sheet priced.now.prices))
+        (F.files shelf.old) certificate.now (F.given shelf.old) (F.given shelf.new)
+        (λ line. output.bytes ≡ line)) }
     ensures files { F.files shelf.new ≡ F.files shelf.old }
     ensures faults { F.faults shelf.old ≤ F.faults shelf.new }
 {

@@ -5,6 +5,7 @@ ghost use Rattle.fux_grid.specs.Exercises.{IsValid};
 ghost use Rattle.fux_port.specs.Promises.{ServesWhole};
 ghost use Rattle.works.specs.Blame.{IsReadWithin};
 ghost use Rattle.works.specs.Checked.{ChecksOn, told, verdict_on};
+ghost use Rattle.works.specs.Near.{ChecksNear};
 
 use crate::refusal::Refusal;
 use crate::work::{Output, Stop, Unmade, Verdict};
@@ -33,6 +34,8 @@ pub fn check<F: Shelf, R: Threads + Sync>(
     ensures served { ServesWhole (F.serves shelf.old) certificate.now 1073741824
         → IfErr result IsReadWithin }
     ensures little { F.given shelf.new ≤ F.given shelf.old + 1073741825 }
+    ensures near { IfOk result (λ output. ChecksNear exercise.now sheet.now (F.files shelf.old)
+        certificate.now (F.given shelf.old) (F.given shelf.new) (λ line. output.bytes ≡ line)) }
     ensures files { F.files shelf.new ≡ F.files shelf.old }
     ensures faults { F.faults shelf.old ≤ F.faults shelf.new }
 {

@@ -1,6 +1,6 @@
 //! What a command makes of its files.
 
-ghost use Rattle.std.specs.Prelude.{◌≡◌, ◌+◌, ◌*◌, ◌≤◌, IfErr, length};
+ghost use Rattle.std.specs.Prelude.{◌≡◌, ◌+◌, ◌*◌, ◌≤◌, IfErr, IfOk, length};
 ghost use Rattle.fux_grid.specs.Exercises.{IsValid};
 ghost use Rattle.fux_port.specs.Counts.{Rose};
 ghost use Rattle.fux_port.specs.Promises.{Keeps, ServesWhole};
@@ -10,6 +10,7 @@ ghost use Rattle.works.specs.TaskFiles.{as_list};
 ghost use Rattle.works.specs.Complaints.{refusal_text};
 ghost use Rattle.works.specs.Endings.{IsMade, Says, SaysRefusal, SaysWithin, SaysWritten};
 ghost use Rattle.works.specs.Little.{ReadsLittle};
+ghost use Rattle.works.specs.Near.{ChecksTextNear, StopsNear};
 ghost use Rattle.works.specs.Works.{Answers, ChecksTexts, MakesOf, MakesOfText, OnTexts, ReadsSheetFile};
 
 use crate::answering::answer;
@@ -59,6 +60,8 @@ pub fn make<'a, F: Shelf, R: Threads + Sync>(
         (making_task making.entry))) }
     ensures little { ReadsLittle (making_task making.entry)
         (F.files shelf.old) (F.given shelf.old) (F.given shelf.new) }
+    ensures near { IfOk result (λ output. StopsNear (making_task making.entry) (F.files shelf.old)
+        (F.given shelf.old) (F.given shelf.new) (λ line. output.bytes ≡ line)) }
     ensures files { F.files shelf.new ≡ F.files shelf.old }
 {
     match making {
@@ -176,6 +179,9 @@ fn check_texts<F: Shelf, R: Threads + Sync>(
     ensures served { ServesWhole (F.serves shelf.old) certificate.now 1073741824
         → IfErr result IsReadWithin }
     ensures little { F.given shelf.new ≤ F.given shelf.old + 1073741825 }
+    ensures near { OnTexts text.now weights.now (λ bytes sheets. IfOk result
+        (λ output. ChecksTextNear sheets bytes (F.files shelf.old) certificate.now
+        (F.given shelf.old) (F.given shelf.new) (λ line. output.bytes ≡ line))) }
     ensures files { F.files shelf.new ≡ F.files shelf.old }
     ensures faults { F.faults shelf.old ≤ F.faults shelf.new }
 {

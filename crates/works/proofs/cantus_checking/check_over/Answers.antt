@@ -1,6 +1,10 @@
-use Rattle.std.proofs.Common.{Err, ap, ◌∙◌}
-use Rattle.std.proofs.lemmas.Result.{err_from_is_err_and}
+use Rattle.std.proofs.Common.{◌≡◌, Err, ap, subst, sym, ◌∙◌}
+use Rattle.std.proofs.lemmas.Result.{IfOk-weaker, err_from_is_err_and}
+use Rattle.cantus_check.specs.Topics.{cantus_subject}
+use Rattle.cantus_prices.specs.declared.prices.CantusPrices.{CantusPrices}
 use Rattle.works.specs.Checked.{IsUnreadable}
+use Rattle.works.specs.Invented.{plan_of}
+use Rattle.works.specs.Near.{TellsNear}
 use Rattle.works.proofs.CantusCheckLemmas.{of_no_sheet, of_sheet}
 use Rattle.works.proofs.cantus_checking.check_over.Goals as goal
 
@@ -16,3 +20,16 @@ returns-clause-checks g c = λ sheets weights.
     of_sheet c.args.wanted.now (g.F.Shelf.files c.args.shelf.now) c.args.certificate.now
     (IsUnreadable g.F.Shelf.files g.F.Shelf.faults c.args.certificate.now c.args.shelf.now c.check.new.shelf)
     sheets c.in_ok-priced.priced c.check.result (c.in_ok-priced.ensures sheets weights) c.check.ensures.checks
+
+pub returns-clause-near : goal.returns-clause-near
+returns-clause-near g c = λ sheets weights.
+    let read = c.in_ok-priced.ensures sheets weights in
+    IfOk-weaker c.check.result _ _
+    (λ output near. record {
+      sheet = c.in_ok-priced.priced.sheet;
+      said = read.0;
+      near = subst (λ (prices : CantusPrices). TellsNear
+          (cantus_subject (plan_of c.args.wanted.now c.in_ok-priced.priced.sheet prices))
+          (g.F.Shelf.files c.args.shelf.now) c.args.certificate.now (g.F.Shelf.given c.args.shelf.now)
+          (g.F.Shelf.given c.check.new.shelf) (λ line. output.bytes ≡ line)) (sym read.1) near;
+    }) c.check.ensures.near

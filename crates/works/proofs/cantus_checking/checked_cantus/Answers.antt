@@ -1,4 +1,4 @@
-use Rattle.std.proofs.Common.{[], inl, inr, refl, subst, arith}
+use Rattle.std.proofs.Common.{◌≡◌, [], inl, inr, refl, subst, arith}
 use Rattle.std.specs.Prelude.{IfErr}
 use Rattle.std.proofs.lemmas.Result.{err_from_is_err_and}
 use Rattle.fux_port.specs.Counts.{Rose}
@@ -13,6 +13,7 @@ use Rattle.works.proofs.CantusLemmas.{alone_unread_of}
 use Rattle.works.proofs.CheckLemmas.{within_said, within_same}
 use Rattle.works.proofs.LittleLemmas.{cantus_little, reads_on_alone}
 use Rattle.works.proofs.MakeLemmas.{have_bytes}
+use Rattle.works.proofs.NearLemmas.{cantus_stops, said_near}
 use Rattle.works.proofs.cantus_checking.checked_cantus.Goals as goal
 
 pub returns-in_err-weights-clause-made : goal.returns-in_err-weights-clause-made
@@ -90,3 +91,12 @@ returns-clause-little g c =
     cantus_little (g.F.Shelf.files c.args.shelf.now) c.args.wanted c.args.certificate.now sheet known.bytes
     (g.F.Shelf.given c.args.shelf.now) (g.F.Shelf.given c.read_weights.new.shelf)
     (g.F.Shelf.given c.check_over.new.shelf) known.had c.read_weights.ensures.little c.check_over.ensures.little
+
+pub returns-clause-near : goal.returns-clause-near
+returns-clause-near g c =
+    said_near [] c.args.certificate.now _ c.check_over.result c.said_within.result
+    (cantus_stops (g.F.Shelf.files c.args.shelf.now) (g.F.Shelf.files c.read_weights.new.shelf) c.args.wanted
+    c.args.certificate.now (sheet_named c.args.sheet) c.in_ok-weights.weights (g.F.Shelf.given c.args.shelf.now)
+    (g.F.Shelf.given c.read_weights.new.shelf) (g.F.Shelf.given c.check_over.new.shelf)
+    (λ output line. output.bytes ≡ line) c.check_over.result c.in_ok-weights.ensures.reads c.in_ok-weights.ensures.files
+    c.read_weights.ensures.little c.check_over.ensures.near) c.said_within.ensures.says

@@ -1,4 +1,4 @@
-use Rattle.works.proofs.ExplainLemmas.{explains_exercise, explains_faults}
+use Rattle.works.proofs.ExplainLemmas.{explains_exercise}
 use Rattle.works.proofs.explaining.explain.Goals as goal
 
 pub returns-in-Ok : goal.returns-in-Ok

@@ -1,4 +1,4 @@
-use Rattle.std.proofs.Common.{◌∷◌, [], Err, inl, inr, refl, subst, ◌∙◌, arith}
+use Rattle.std.proofs.Common.{◌≡◌, ◌∷◌, [], Err, inl, inr, refl, subst, ◌∙◌, arith}
 use Rattle.std.specs.Prelude.{IfErr}
 use Rattle.std.proofs.lemmas.Result.{err_from_is_err_and}
 use Rattle.fux_port.specs.Counts.{Rose}
@@ -12,6 +12,7 @@ use Rattle.works.proofs.BlameLemmas.{blames_within, names_kept, result_blames_no
 use Rattle.works.proofs.LittleLemmas.{check_little, reads_on}
 use Rattle.works.proofs.CheckLemmas.{checked_said, of_check}
 use Rattle.works.proofs.MakeLemmas.{have_bytes, made_said, of_none, of_one, of_text, of_two, read_same, sheet_unread}
+use Rattle.works.proofs.NearLemmas.{check_stops, each_output, said_near}
 use Rattle.works.proofs.making.make.Goals as goal
 
 pub returns-in_err-weights-in-OnExercise-clause-made :
@@ -360,3 +361,58 @@ returns-in_ok-file-in-FromSmf-clause-little g c = rw c.in-FromSmf.is (inl (omega
 
 pub returns-in-Drill-clause-little : goal.returns-in-Drill-clause-little
 returns-in-Drill-clause-little g c = rw c.in-Drill.is (inl (omega arith))
+
+-- ---- how much is read of a certificate that is refused
+
+pub returns-in_ok-weights-in-Check-clause-near : goal.returns-in_ok-weights-in-Check-clause-near
+returns-in_ok-weights-in-Check-clause-near g c =
+    let files = g.F.Shelf.files in
+    let given = g.F.Shelf.given in
+    let name = c.in-Check.name.now in
+    let certificate = c.in-Check.certificate.now in
+    let sheet = sheet_named c.in-Check.sheet in
+    let text = c.in_ok-text-in-Check.text in
+    let weights = c.in_ok-weights-in-Check.weights in
+    let same = c.in_ok-text-in-Check.ensures.files in
+    rw c.in-Check.is (said_near name certificate _ c.check_texts.result c.said_within.result
+    (check_stops (files c.args.shelf.now) (files c.read_weights-in-Check.new.shelf) name certificate sheet text weights
+    (given c.args.shelf.now) (given c.read_content-in-Check.new.shelf) (given c.read_weights-in-Check.new.shelf)
+    (given c.check_texts.new.shelf) (λ output line. output.bytes ≡ line) c.check_texts.result (
+      c.in_ok-text-in-Check.ensures.reads,
+      read_same 65536 (files c.args.shelf.now) _ (as_list sheet) (as_list weights) same
+          c.in_ok-weights-in-Check.ensures.reads,
+    ) (c.in_ok-weights-in-Check.ensures.files ∙ same) c.read_content-in-Check.ensures.little
+    c.read_weights-in-Check.ensures.little c.check_texts.ensures.near) c.said_within.ensures.says)
+
+pub returns-in-CheckCantus-clause-near : goal.returns-in-CheckCantus-clause-near
+returns-in-CheckCantus-clause-near g c = rw c.in-CheckCantus.is c.checked_cantus.ensures.near
+
+pub returns-in_ok-weights-in-OnExercise-clause-near : goal.returns-in_ok-weights-in-OnExercise-clause-near
+returns-in_ok-weights-in-OnExercise-clause-near g c = rw c.in-OnExercise.is (each_output c.said.result)
+
+pub returns-in-OnMixed-clause-near : goal.returns-in-OnMixed-clause-near
+returns-in-OnMixed-clause-near g c = rw c.in-OnMixed.is (each_output c.on_mixed.result)
+
+pub returns-in_ok-text-in-Explain-clause-near : goal.returns-in_ok-text-in-Explain-clause-near
+returns-in_ok-text-in-Explain-clause-near g c = rw c.in-Explain.is (each_output c.said-in-Explain.result)
+
+pub returns-in_ok-file-in-FromSmf-clause-near : goal.returns-in_ok-file-in-FromSmf-clause-near
+returns-in_ok-file-in-FromSmf-clause-near g c = rw c.in-FromSmf.is (each_output c.said-in-FromSmf.result)
+
+pub returns-in-JoinSmf-clause-near : goal.returns-in-JoinSmf-clause-near
+returns-in-JoinSmf-clause-near g c = rw c.in-JoinSmf.is (each_output c.join.result)
+
+pub returns-in-Drill-clause-near : goal.returns-in-Drill-clause-near
+returns-in-Drill-clause-near g c = rw c.in-Drill.is (each_output c.said-in-Drill.result)
+
+pub returns-in-MarkAnswer-clause-near : goal.returns-in-MarkAnswer-clause-near
+returns-in-MarkAnswer-clause-near g c = rw c.in-MarkAnswer.is (each_output c.answer.result)
+
+pub returns-in-Class-clause-near : goal.returns-in-Class-clause-near
+returns-in-Class-clause-near g c = rw c.in-Class.is (each_output c.class.result)
+
+pub returns-in-Canon-clause-near : goal.returns-in-Canon-clause-near
+returns-in-Canon-clause-near g c = rw c.in-Canon.is (each_output c.canon.result)
+
+pub returns-in-NewCantus-clause-near : goal.returns-in-NewCantus-clause-near
+returns-in-NewCantus-clause-near g c = rw c.in-NewCantus.is (each_output c.new_cantus.result)
