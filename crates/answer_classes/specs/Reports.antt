@@ -5,35 +5,40 @@ use Rattle.std.specs.List.{flat_map}
 use Rattle.class_marker.specs.Unmarked.{unmarked_text}
 use Rattle.answer_classes.specs.declared.report.WholeReport.{WholeReport}
 use Rattle.answer_classes.specs.declared.said.Said.{Said}
-use Rattle.answer_classes.specs.declared.said.Said.TheVariants.{Told, Refused, Unread}
+use Rattle.answer_classes.specs.declared.said.Said.TheVariants.{Told, Refused, Unjoined, Unread}
+use Rattle.smf_answers.specs.FaultTexts.{fault_text}
 
 -- a name with what is said of its file
 abbrev pub Saying : Type 0
 Saying = List ℕ × Said
 
--- what is said of the file of a name, below the name: the lines that tell of it, why it is refused,
--- or that it can't be read
+-- what is said of the file of a name, below the name: the lines that tell of it, why it is refused
+-- or is no setting of the lesson, or that it can't be read
 abbrev pub said_text : Saying → List ℕ
 said_text (name, Told lines) = name ++ 10 ∷ string_bytes lines.text
 said_text (name, Refused why) = name ++ 10 ∷ unmarked_text name why ++ 10 ∷ []
+said_text (name, Unjoined fault) = name ++ 10 ∷ codes "midi: " ++ fault_text fault ++ 10 ∷ []
 said_text (name, Unread) = name ++ 10 ∷ name ++ codes ": cannot read" ++ 10 ∷ []
 
 -- its setting has a mark
 abbrev pub has_mark : Said → Bool
 has_mark (Told lines) = lines.has_mark
 has_mark (Refused why) = false
+has_mark (Unjoined fault) = false
 has_mark Unread = false
 
--- it is refused, or can't be read
+-- it is refused, is no setting of the lesson, or can't be read
 abbrev pub is_refused : Said → Bool
 is_refused (Told lines) = false
 is_refused (Refused why) = true
+is_refused (Unjoined fault) = true
 is_refused Unread = true
 
 -- it differs from the lesson
 abbrev pub is_other : Said → Bool
 is_other (Told lines) = lines.differs
 is_other (Refused why) = false
+is_other (Unjoined fault) = false
 is_other Unread = false
 
 abbrev pub marked_in : List Saying → ℕ

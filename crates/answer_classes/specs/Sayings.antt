@@ -1,5 +1,5 @@
--- What is said of a file of a class: by a lesson, or by itself.
-use Rattle.std.specs.Prelude.{◌≡◌, ℕ, false, List, Option, Some, None}
+-- What is said of a file of a class: by a lesson, or by itself; of a text, or of a MIDI file.
+use Rattle.std.specs.Prelude.{◌≡◌, ℕ, Bool, false, List, Option, Some, None, Ok, Err}
 use Rattle.class_marker.specs.declared.marking.MarkLines.{MarkLines}
 use Rattle.class_marker.specs.declared.one.Marking.TheVariants as marking
 use Rattle.class_marker.specs.declared.one.Text.{Text}
@@ -11,7 +11,8 @@ use Rattle.fux_text.specs.Texts.{HasFault}
 use Rattle.lesson_answers.specs.declared.answer.AnswerLines.{AnswerLines}
 use Rattle.lesson_answers.specs.Answers.{TellsAnswer}
 use Rattle.answer_classes.specs.declared.said.Said.{Said}
-use Rattle.answer_classes.specs.declared.said.Said.TheVariants.{Told, Refused, Unread}
+use Rattle.answer_classes.specs.declared.said.Said.TheVariants.{Told, Refused, Unjoined, Unread}
+use Rattle.smf_answers.specs.Reading.{IsJoined}
 
 -- ---- by itself
 
@@ -27,6 +28,7 @@ pub record TellsAlone (bytes : List ℕ) (lines : AnswerLines) : Type 0 where
 abbrev pub IsSaidAlone : List ℕ → Said → Type 0
 IsSaidAlone bytes (Told lines) = TellsAlone bytes lines
 IsSaidAlone bytes (Refused why) = IsMarking bytes (marking.Refused why)
+IsSaidAlone bytes (Unjoined fault) = ⊥
 IsSaidAlone bytes Unread = ⊥
 
 -- ---- by a lesson
@@ -42,6 +44,7 @@ abbrev pub SaysExercise : Exercise → Exercise → Said → Type 0
 SaysExercise lesson answer (Told lines) = TellsSetting lesson answer lines
 SaysExercise lesson answer (Refused (unmarked.Text kind line column)) = ⊥
 SaysExercise lesson answer (Refused unmarked.NoSetting) = answer.setting ≡ None
+SaysExercise lesson answer (Unjoined fault) = ⊥
 SaysExercise lesson answer Unread = ⊥
 
 -- this is said of the answer whose text these bytes are
@@ -56,21 +59,54 @@ IsSaidBy lesson bytes (Told lines) = SaysTextOf lesson bytes (Told lines)
 IsSaidBy lesson bytes (Refused (unmarked.Text kind line column)) = HasFault bytes kind line column
 IsSaidBy lesson bytes (Refused unmarked.NoSetting) =
     SaysTextOf lesson bytes (Refused unmarked.NoSetting)
+IsSaidBy lesson bytes (Unjoined fault) = ⊥
 IsSaidBy lesson bytes Unread = ⊥
 
--- ---- both
+-- ---- a MIDI file by a lesson
+
+-- a file of notes alone answers with all that the lesson sets
+abbrev pub as_answer : Exercise → Exercise
+as_answer lesson = record lesson { setting = None }
+
+-- these lines tell of the setting of the lesson that a file is what differs from the lesson, and
+-- its marks by that
+pub record TellsJoined (lesson : Exercise) (top_first : Bool) (bytes : List ℕ) (lines : AnswerLines)
+    : Type 0 where
+  pub score : Grid
+  pub joined : IsJoined lesson top_first bytes (Ok score)
+  pub told : TellsAnswer lesson (as_answer lesson) score lines
+
+-- this is said of a file with these bytes: so, or its first fault
+abbrev pub IsSaidJoined : Exercise → Bool → List ℕ → Said → Type 0
+IsSaidJoined lesson top_first bytes (Told lines) = TellsJoined lesson top_first bytes lines
+IsSaidJoined lesson top_first bytes (Unjoined fault) = IsJoined lesson top_first bytes (Err fault)
+IsSaidJoined lesson top_first bytes (Refused why) = ⊥
+IsSaidJoined lesson top_first bytes Unread = ⊥
+
+-- ---- a text, by a lesson or by itself
 
 -- this is said of a text, by a lesson where there is one
 abbrev pub IsSaid : Option Exercise → List ℕ → Said → Type 0
 IsSaid None bytes said = IsSaidAlone bytes said
 IsSaid (Some lesson) bytes said = IsSaidBy lesson bytes said
 
--- this is said of each text of which no more than 65,536 bytes are read, and of which this was read
-abbrev pub IsSaidOfText : Option Exercise → Text → Said → Type 0
-IsSaidOfText lesson text said =
-    (bytes : List ℕ) → IsContent 65536 text bytes → IsSaid lesson bytes said
+-- this is said of each file of which no more than so many bytes are read, and of which this was
+-- read
+abbrev pub IsSaidOfBytes : (List ℕ → Said → Type 0) → ℕ → Text → Said → Type 0
+IsSaidOfBytes Says limit read said = (bytes : List ℕ) → IsContent limit read bytes → Says bytes said
 
 -- and this where it could not be read
+abbrev pub IsSaidOrUnread : (List ℕ → Said → Type 0) → ℕ → Option Text → Said → Type 0
+IsSaidOrUnread Says limit None said = said ≡ Unread
+IsSaidOrUnread Says limit (Some read) said = IsSaidOfBytes Says limit read said
+
+-- so of a text of at most 65,536 bytes
+abbrev pub IsSaidOfText : Option Exercise → Text → Said → Type 0
+IsSaidOfText lesson = IsSaidOfBytes (IsSaid lesson) 65536
+
 abbrev pub IsSaidOf : Option Exercise → Option Text → Said → Type 0
-IsSaidOf lesson None said = said ≡ Unread
-IsSaidOf lesson (Some text) said = IsSaidOfText lesson text said
+IsSaidOf lesson = IsSaidOrUnread (IsSaid lesson) 65536
+
+-- and of a MIDI file of at most 1,048,576
+abbrev pub IsSaidOfFile : Exercise → Bool → Option Text → Said → Type 0
+IsSaidOfFile lesson top_first = IsSaidOrUnread (IsSaidJoined lesson top_first) 1048576

@@ -2,10 +2,12 @@
 //! answers to a lesson, or exercises by themselves.
 #![tactic(auto)]
 
+mod joined;
 mod loose_list;
 mod report;
 mod said;
 
+pub use joined::say_joined;
 pub use loose_list::read_loose_list;
 pub use report::{WholeReport, put_said, whole};
 pub use said::{Said, say};

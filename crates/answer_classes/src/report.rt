@@ -1,12 +1,14 @@
 //! The report of a class in which each name has its place.
 
-ghost use Rattle.std.specs.Prelude.{◌≡◌, ◌<◌, ◌^◌, ◌++◌, ◌∷◌, [], IfOk, List, OnOk, if◌then◌else◌, length, string_bytes};
+ghost use Rattle.std.specs.Prelude.{◌≡◌, ◌<◌, ◌^◌, ◌++◌, ◌∷◌, [], IfOk, List, OnOk, codes, if◌then◌else◌, length, string_bytes};
+ghost use Rattle.smf_answers.specs.FaultTexts.{fault_text};
 ghost use Rattle.answer_classes.specs.Reports as words;
 ghost use Rattle.answer_classes.specs.Reports.{IsReportOf, IsWholeOf, Saying, counts_text, line_end, said_text, whole_line};
 
 use crate::said::Said;
 use class_marker::put_unmarked;
 use fux_pitch::Memory;
+use smf_answers::JoinFault;
 use std::alloc::Global;
 use std::fmt::Write;
 
@@ -16,7 +18,7 @@ pub struct WholeReport {
     pub text: String,
     /// How many have a mark.
     pub marked: usize,
-    /// How many are refused, or can't be read.
+    /// How many are refused, are no setting of the lesson, or can't be read.
     pub refused: usize,
     /// How many differ from the lesson.
     pub others: usize,
@@ -36,6 +38,15 @@ impl WholeReport {
     }
 }
 
+/// Appends the line of a MIDI file that is no setting of the lesson.
+fn put_fault(text: &mut String, fault: JoinFault) -> Result<(), Memory>
+    ensures { OnOk result (string_bytes text.new ≡ string_bytes text.old
+        ++ codes "midi: " ++ fault_text fault ++ 10 ∷ []) }
+{
+    write!(text, "midi: {fault}\n")?;
+    Ok(())
+}
+
 /// Appends what is said of the file of a name.
 fn put_text(text: &mut String, name: &str, said: &Said) -> Result<(), Memory>
     ensures { OnOk result (string_bytes text.new ≡ string_bytes text.old
@@ -49,6 +60,7 @@ fn put_text(text: &mut String, name: &str, said: &Said) -> Result<(), Memory>
             put_unmarked(text, name, *why)?;
             Ok(text.push('\n')?)
         }
+        Said::Unjoined(fault) => put_fault(text, *fault),
         Said::Unread => {
             text.push_str(name)?;
             Ok(text.push_str(": cannot read\n")?)
@@ -62,17 +74,17 @@ fn marked(said: &Said) -> usize
 {
     match said {
         Said::Told(lines) => usize::from(lines.has_mark),
-        Said::Refused(_) | Said::Unread => 0,
+        Said::Refused(_) | Said::Unjoined(_) | Said::Unread => 0,
     }
 }
 
-/// 1 where it is refused, or can't be read.
+/// 1 where it is refused, is no setting of the lesson, or can't be read.
 fn refused(said: &Said) -> usize
     ensures { result ≡ (if words.is_refused said.now then 1 else 0) }
 {
     match said {
         Said::Told(_) => 0,
-        Said::Refused(_) | Said::Unread => 1,
+        Said::Refused(_) | Said::Unjoined(_) | Said::Unread => 1,
     }
 }
 
@@ -82,7 +94,7 @@ fn other(said: &Said) -> usize
 {
     match said {
         Said::Told(lines) => usize::from(lines.differs),
-        Said::Refused(_) | Said::Unread => 0,
+        Said::Refused(_) | Said::Unjoined(_) | Said::Unread => 0,
     }
 }
 

@@ -10,6 +10,7 @@ use fux_grid::Exercise;
 use fux_pitch::Memory;
 use fux_text::{TextFault, TextKind, read};
 use lesson_answers::{AnswerLines, answer_lines};
+use smf_answers::JoinFault;
 use std::alloc::Global;
 
 /// What is said of a file of a class.
@@ -19,6 +20,8 @@ pub enum Said {
     Told(AnswerLines),
     /// Why the text of the file is refused.
     Refused(Unmarked),
+    /// Why a MIDI file is no setting of the lesson.
+    Unjoined(JoinFault),
     /// The file can't be read.
     Unread,
 }

@@ -1,5 +1,5 @@
 -- What the words on the command line ask for. A word is its bytes.
-use Rattle.std.specs.Prelude.{◌≡◌, ℕ, ◌+◌, ◌-◌, ◌==◌, ◌≤◌, ◌≤ℤ◌, ◌&&◌, int_le, nat_le, not, length, Bool, true, false, List, [], ◌∷◌, String, Option, Some, None, IfSome, slice_index_or, map, string_bytes, codes, if◌then◌else◌, option_and_then, option_map}
+use Rattle.std.specs.Prelude.{◌≡◌, ℕ, ◌+◌, ◌-◌, ◌==◌, ◌≤◌, ◌≤ℤ◌, ◌&&◌, int_le, nat_le, not, length, Bool, true, false, List, [], ◌∷◌, String, Option, Some, None, IfSome, drop, slice_index_or, take, map, string_bytes, codes, if◌then◌else◌, option_and_then, option_map}
 use Rattle.std.specs.Borrow.{Bor}
 use Rattle.std.specs.Option.{option_map_or}
 use Rattle.std.specs.Str.{bytes_eq}
@@ -12,20 +12,22 @@ use Rattle.fux_text.specs.Names.{mode_named, pitch_named}
 use Rattle.smf_score.specs.Heads.{IsHead}
 use Rattle.text_lines.specs.Numbers.{number_within}
 use Rattle.command_words.specs.declared.command.Command.{Command}
-use Rattle.command_words.specs.declared.command.Command.TheVariants.{Certify, CertifyCantus, Make, WholeClass}
+use Rattle.command_words.specs.declared.command.Command.TheVariants.{Certify, CertifyCantus, Make, WholeClass, WholeFiles}
+use Rattle.command_words.specs.declared.command.FileKind.{FileKind}
+use Rattle.command_words.specs.declared.command.FileKind.TheVariants as read_as
 use Rattle.command_words.specs.declared.command.Job.{Job}
 use Rattle.command_words.specs.declared.command.Job.TheVariants.{Compose, Best, Mark, Weigh, Cantus, CantusCharges, Print, ToSmf, ToXml, MarkXml, Picture, MarkPicture, ComposeNth}
 use Rattle.command_words.specs.declared.command.MixedJob.{MixedJob}
 use Rattle.command_words.specs.declared.command.MixedJob.TheVariants as mixed
 use Rattle.command_words.specs.declared.command.Making.{Making}
-use Rattle.command_words.specs.declared.command.Making.TheVariants.{OnExercise, OnMixed, Check, FromSmf, JoinSmf, Drill, MarkAnswer, Class, Canon, NewCantus, CheckCantus, Explain}
+use Rattle.command_words.specs.declared.command.Making.TheVariants.{OnExercise, OnMixed, Check, FromSmf, JoinSmf, Drill, MarkAnswer, Class, ClassFiles, Canon, NewCantus, CheckCantus, Explain}
 use Rattle.command_words.specs.declared.command.Subject.{Subject}
 use Rattle.command_words.specs.declared.command.Subject.TheVariants as subject
 use Rattle.command_words.specs.declared.command.Search.{Search}
 use Rattle.command_words.specs.declared.command.Wanted.{Wanted}
 use Rattle.command_words.specs.declared.verbs.Verb.{Verb}
 use Rattle.command_words.specs.declared.verbs.Verb.TheVariants as verb
-use Rattle.command_words.specs.Forms.{form_of}
+use Rattle.command_words.specs.Forms.{files_form, form_of}
 use Rattle.command_words.specs.Verbs.{verb_named}
 
 -- words as their bytes
@@ -44,7 +46,9 @@ pub data Task : Type 0 where
   drill : (number : ℕ) (by_sharper : Bool) → Task
   mark_answer : (name lesson : Text) → Task
   class_report : (list : Text) → Task
-  whole_class : (list : Text) (lesson : Option Text) → Task
+  class_files : (names : List Text) → Task
+  whole_class : (list : Text) (lesson : Option Text) (kind : FileKind) → Task
+  whole_files : (names : List Text) (lesson : Option Text) (kind : FileKind) → Task
   find_canon : (name : Text) (sheet : Option Text) (search : Search) → Task
   find_cantus : (wanted : Wanted) (sheet : Option Text) (search : Search) → Task
   certify_cantus : (wanted : Wanted) (sheet : Option Text) (budget : ℕ) → Task
@@ -65,13 +69,15 @@ making_task (JoinSmf lesson name top_first) = join_smf lesson.now name.now top_f
 making_task (Drill number by_sharper) = drill number by_sharper
 making_task (MarkAnswer name lesson) = mark_answer name.now lesson.now
 making_task (Class list) = class_report list.now
+making_task (ClassFiles names) = class_files (texts names.now)
 making_task (Canon name sheet search) = find_canon name.now (sheet_named sheet) search
 making_task (NewCantus wanted sheet search) = find_cantus wanted (sheet_named sheet) search
 making_task (CheckCantus wanted certificate sheet) = check_cantus wanted certificate.now (sheet_named sheet)
 
 abbrev pub task_of : Command → Task
 task_of (Make making) = making_task making
-task_of (WholeClass list lesson) = whole_class list.now (sheet_named lesson)
+task_of (WholeClass list lesson kind) = whole_class list.now (sheet_named lesson) kind
+task_of (WholeFiles names lesson kind) = whole_files (texts names.now) (sheet_named lesson) kind
 task_of (Certify name sheet budget form) = certify name.now (sheet_named sheet) budget form
 task_of (CertifyCantus wanted sheet budget) = certify_cantus wanted (sheet_named sheet) budget
 
@@ -104,7 +110,8 @@ HasMidiHead _ = Unit {0}
 
 abbrev pub HasHead : Command → Type 0
 HasHead (Make making) = HasMidiHead making
-HasHead (WholeClass list lesson) = Unit {0}
+HasHead (WholeClass list lesson kind) = Unit {0}
+HasHead (WholeFiles names lesson kind) = Unit {0}
 HasHead (Certify name sheet budget form) = Unit {0}
 HasHead (CertifyCantus wanted sheet budget) = IsWanted wanted
 
@@ -252,16 +259,47 @@ cantus_of name (Some sheet) = on_exercise name (Some sheet) CantusCharges
 abbrev pub cantus_asked : List Row → Option Task
 cantus_asked rows = first_of (codes "EX") rows >>= λ name. Some (cantus_of name (first_of (codes "sheet") rows))
 
+-- what the files of a class are: texts, or MIDI files where there is a lesson
+abbrev pub kind_in : Option Text → Bool → Bool → Option FileKind
+kind_in lesson false false = Some read_as.Text
+kind_in lesson false true = None
+kind_in None true top_first = None
+kind_in (Some lesson) true top_first = Some (read_as.Midi top_first)
+
+abbrev pub files_in : List Row → Option FileKind
+files_in rows = kind_in (first_of (codes "lesson") rows) (is_set (codes "midi") rows) (is_set (codes "top-first") rows)
+
 -- marking a class by itself; or by a lesson or going on, whatever its files are
-abbrev pub classing_of : Text → Option Text → Bool → Task
-classing_of list None false = class_report list
-classing_of list None true = whole_class list None
-classing_of list (Some lesson) going_on = whole_class list (Some lesson)
+abbrev pub classing_of : Text → Option Text → FileKind → Bool → Task
+classing_of list None kind false = class_report list
+classing_of list None kind true = whole_class list None kind
+classing_of list (Some lesson) kind going_on = whole_class list (Some lesson) kind
 
 abbrev pub class_asked : List Row → Option Task
 class_asked rows = do
   list ← first_of (codes "LIST") rows
-  Some (classing_of list (first_of (codes "lesson") rows) (is_set (codes "keep-going") rows))
+  kind ← files_in rows
+  Some (classing_of list (first_of (codes "lesson") rows) kind (is_set (codes "keep-going") rows))
+
+-- the same of files with these names
+abbrev pub filing_of : List Text → Option Text → FileKind → Bool → Task
+filing_of names None kind false = class_files names
+filing_of names None kind true = whole_files names None kind
+filing_of names (Some lesson) kind going_on = whole_files names (Some lesson) kind
+
+-- there are as many names as a list may have: from 1 to 512
+abbrev pub are_a_class : List Text → Bool
+are_a_class names = nat_le 1 (length names) && nat_le (length names) 512
+
+-- that many names
+abbrev pub if_a_class : List Text → Option (List Text)
+if_a_class names = if are_a_class names then Some names else None
+
+abbrev pub files_asked : List Text → List Row → Option Task
+files_asked words rows = do
+  names ← if_a_class words
+  kind ← files_in rows
+  Some (filing_of names (first_of (codes "lesson") rows) kind (is_set (codes "keep-going") rows))
 
 abbrev pub canon_asked : List Row → Option Task
 canon_asked rows = do
@@ -435,7 +473,27 @@ asks verb.CheckCantus = check_cantus_asked
 abbrev pub asked_by : Verb → List Text → Option Task
 asked_by verb words = found_in (form_of verb) words >>= asks verb
 
+-- the place of the first word `--files` among some words, the first of which has this place
+abbrev pub files_from : ℕ → List Text → Option ℕ
+files_from place [] = None
+files_from place (word ∷ words) =
+    if bytes_eq word (codes "--files") then Some place else files_from (place + 1) words
+
+-- its place among the words behind `class`
+abbrev pub files_at : Text → List Text → Option ℕ
+files_at word rest = if bytes_eq word (codes "class") then files_from 0 rest else None
+
+-- what the words before `--files` ask for on the names behind it
+abbrev pub asked_on : List Text → List Text → Option Task
+asked_on words names = found_in files_form words >>= files_asked names
+
+-- what a first word and the words behind it ask for: `class` on the names behind `--files`, which
+-- has this place among them, or a command with words of its form
+abbrev pub asked_at : Text → List Text → Option ℕ → Option Task
+asked_at word rest None = verb_named word >>= λ verb. asked_by verb rest
+asked_at word rest (Some place) = asked_on (take place rest) (drop (place + 1) rest)
+
 -- what the words ask for, if they are of a command's form
 abbrev pub asked : List Text → Option Task
 asked [] = None
-asked (word ∷ rest) = verb_named word >>= λ verb. asked_by verb rest
+asked (word ∷ rest) = asked_at word rest (files_at word rest)

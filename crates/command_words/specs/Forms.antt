@@ -1,5 +1,5 @@
 -- The words behind a command's first, as `clap` takes them.
-use Rattle.std.specs.Prelude.{Bool, true, false, List, [], ◌∷◌, Some}
+use Rattle.std.specs.Prelude.{Bool, true, false, List, [], ◌∷◌, Some, codes}
 use Rattle.clap.specs.Simple.{on_top}
 use Rattle.clap.specs.Words.{App, Rule, Text, new_app, new_rule, with_rule}
 use Rattle.clap.specs.declared.builder.action.ArgAction.TheVariants.{SetTrue}
@@ -7,6 +7,7 @@ use Rattle.command_words.specs.declared.verbs.Kind.{Kind}
 use Rattle.command_words.specs.declared.verbs.Kind.TheVariants as kind
 use Rattle.command_words.specs.declared.verbs.Part.{Part}
 use Rattle.command_words.specs.declared.verbs.Verb.{Verb}
+use Rattle.command_words.specs.declared.verbs.Part.TheVariants as part
 use Rattle.command_words.specs.Verbs.{kind_of, name_of, row_of}
 
 -- a word that must be there, an option, which is given once at most, and a flag
@@ -42,3 +43,8 @@ with_parts app (part ∷ parts) = with_parts (with_rule app (rule_of part)) part
 -- what `clap` takes behind the first word of a command
 abbrev pub form_of : Verb → App
 form_of verb = with_parts (words_of (row_of verb).0) (row_of verb).1
+
+-- what it takes between `class` and `--files`
+abbrev pub files_form : App
+files_form =
+    with_parts (words_of (codes "class")) (part.Lesson ∷ part.KeepGoing ∷ part.Midi ∷ part.TopFirst ∷ [])

@@ -1,11 +1,11 @@
 //! The words on the command line.
 
-ghost use Rattle.std.specs.Prelude.{◌≡◌, IfOk, IfSome, option_map, true};
+ghost use Rattle.std.specs.Prelude.{◌≡◌, ◌+◌, ◌<◌, IfOk, IfSome, drop, length, option_map, take, true};
 ghost use Rattle.clap.specs.Words.{app_of, found_of, is_simple_and_free, rows_of};
-ghost use Rattle.command_words.specs.Commands.{HasHead, asked, asked_by, found_in, task_of, texts};
+ghost use Rattle.command_words.specs.Commands.{HasHead, asked, asked_by, asked_on, files_at, files_from, found_in, task_of, texts};
 
-use crate::forms::form;
-use crate::values::asked_of;
+use crate::forms::{files_form, form};
+use crate::values::{asked_of, files_asked};
 use crate::verbs::{Verb, verb_named};
 use cert_text::Form;
 use clap::ArgMatches;
@@ -89,6 +89,16 @@ pub struct Wanted {
     pub high: Pitch,
 }
 
+/// What the files of a class are.
+#[derive(Clone, Copy)]
+pub enum FileKind {
+    /// Note texts.
+    Text,
+    /// MIDI files, the first track of which is the highest voice where `top_first`, unless the
+    /// cantus says otherwise.
+    Midi { top_first: bool },
+}
+
 /// What a search is asked for.
 #[derive(Clone, Copy)]
 pub struct Search {
@@ -155,6 +165,10 @@ pub enum Making<'a> {
     Class {
         list: &'a str,
     },
+    /// The report of the exercises in the files of these names.
+    ClassFiles {
+        names: &'a [String],
+    },
     /// The best of the canons that the text in a file asks for, or the one of a number, over the
     /// sheet of weights in another where one is named.
     Canon {
@@ -188,6 +202,13 @@ pub enum Command<'a> {
     WholeClass {
         list: &'a str,
         lesson: Option<&'a str>,
+        kind: FileKind,
+    },
+    /// The same report of the files of these names.
+    WholeFiles {
+        names: &'a [String],
+        lesson: Option<&'a str>,
+        kind: FileKind,
     },
     /// The certificate, in this form, of the best setting of the exercise in a file, found within
     /// this budget, over the sheet of weights in another where one is named. It is written while it
@@ -215,10 +236,69 @@ pub fn parse(alloc: Global, words: &[String]) -> Result<Option<Command<'_>>, Mem
     let Some((word, rest)) = words.split_first() else {
         return Ok(None);
     };
-    match verb_named(word.as_str()) {
-        Some(verb) => parse_behind(alloc, verb, rest),
-        None => Ok(None),
+    match files_at(word.as_str(), rest) {
+        Some(place) => {
+            let (before, names) = cut_at(rest, place);
+            parse_files(alloc, before, names)
+        }
+        None => match verb_named(word.as_str()) {
+            Some(verb) => parse_behind(alloc, verb, rest),
+            None => Ok(None),
+        },
     }
+}
+
+/// The place of the first word `--files` among some words, counted from 0.
+fn files_in(words: &[String]) -> Option<usize>
+    ensures place { result ≡ files_from 0 (texts words.now) }
+    ensures within { IfSome result (λ place. place < length words.now) }
+{
+    let mut place = 0;
+    for word in words {
+        if word.as_str() == "--files" {
+            return Some(place);
+        }
+        place += 1;
+    }
+    None
+}
+
+/// Its place among the words behind `class`.
+fn files_at(word: &str, rest: &[String]) -> Option<usize>
+    ensures place { result ≡ files_at word.now (texts rest.now) }
+    ensures within { IfSome result (λ place. place < length rest.now) }
+{
+    if word == "class" {
+        files_in(rest)
+    } else {
+        None
+    }
+}
+
+/// The words before a place, and those behind it.
+fn cut_at<'a>(words: &'a [String], place: usize) -> (&'a [String], &'a [String])
+    requires { place < length words.now }
+    ensures before { texts result.0.now ≡ take place (texts words.entry.now) }
+    ensures behind { texts result.1.now ≡ drop (place + 1) (texts words.entry.now) }
+{
+    (&words[..place], &words[place + 1..])
+}
+
+/// What the words between `class` and `--files` ask for on these names, or none where they aren't
+/// of its form.
+fn parse_files<'a>(
+    alloc: Global,
+    words: &'a [String],
+    names: &'a [String],
+) -> Result<Option<Command<'a>>, Memory>
+    ensures asked { IfOk result (λ found. option_map task_of found
+        ≡ asked_on (texts words.entry.now) (texts names.entry.now)) }
+    ensures head { IfOk result (λ found. IfSome found HasHead) }
+{
+    let Some(matches) = taken(files_form(alloc)?, words)? else {
+        return Ok(None);
+    };
+    Ok(files_asked(names, &matches))
 }
 
 /// What the words behind the first of a command ask for, or none where they aren't of its form.

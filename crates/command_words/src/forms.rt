@@ -2,7 +2,7 @@
 
 ghost use Rattle.std.specs.Prelude.{◌≡◌, IfOk};
 ghost use Rattle.clap.specs.Words.{app_of, with_rule};
-ghost use Rattle.command_words.specs.Forms.{flag_word, form_of, needed_word, option_word, rule_of, with_parts, words_of};
+ghost use Rattle.command_words.specs.Forms.{files_form, flag_word, form_of, needed_word, option_word, rule_of, with_parts, words_of};
 
 use crate::verbs::{Kind, Part, Verb};
 use clap::{Arg, ArgAction, Command};
@@ -14,6 +14,15 @@ pub fn form<'a>(alloc: Global, verb: Verb) -> Result<Command<'a>, AllocError>
 {
     let (word, parts) = verb.row();
     let word: &'a str = word;
+    with_parts(alloc, bare(alloc, word), parts)
+}
+
+/// What `clap` takes between `class` and `--files`.
+pub fn files_form<'a>(alloc: Global) -> Result<Command<'a>, AllocError>
+    ensures { IfOk result (λ command. app_of command ≡ files_form) }
+{
+    let word: &'a str = "class";
+    let parts = &[Part::Lesson, Part::KeepGoing, Part::Midi, Part::TopFirst];
     with_parts(alloc, bare(alloc, word), parts)
 }
 

@@ -6,4 +6,6 @@ mod forms;
 mod values;
 mod verbs;
 
-pub use command::{Command, Job, Making, MixedJob, Named, Search, Subject, Wanted, parse};
+pub use command::{
+    Command, FileKind, Job, Making, MixedJob, Named, Search, Subject, Wanted, parse,
+};

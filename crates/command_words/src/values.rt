@@ -5,9 +5,9 @@ ghost use Rattle.clap.specs.Words.{first_of, found_of, rows_of};
 ghost use Rattle.fux_text.specs.Names.{mode_named};
 ghost use Rattle.smf_score.specs.Heads.{IsHead};
 ghost use Rattle.text_lines.specs.Numbers.{number_within};
-ghost use Rattle.command_words.specs.Commands.{AreNamed, HasHead, HasMidiHead, IsNamedSubject, IsWanted, against_in, asks, before_in, before_nth, best_asked, budget_in, canon_asked, cantus_asked, cantus_of, certify_asked, certify_cantus_asked, check_asked, check_cantus_asked, class_asked, classing_of, compose_asked, composing, drill_asked, either_asked, either_by, explain_asked, form_in, from_smf_asked, head_in, is_item, is_set, job_asked, join_smf_asked, making_task, mark_asked, mark_mixed_asked, marking_of, mixed_asked, mixed_by, named_in, new_cantus_asked, number_at, picture_asked, print_asked, said_of, search_in, subject_in, task_of, wanted_in, weigh_asked, weighing_with, wrap_in};
+ghost use Rattle.command_words.specs.Commands.{AreNamed, HasHead, HasMidiHead, IsNamedSubject, IsWanted, against_in, are_a_class, asks, before_in, before_nth, best_asked, budget_in, canon_asked, cantus_asked, cantus_of, certify_asked, certify_cantus_asked, check_asked, check_cantus_asked, class_asked, classing_of, compose_asked, composing, drill_asked, either_asked, either_by, explain_asked, files_asked, files_in, filing_of, form_in, from_smf_asked, head_in, is_item, is_set, job_asked, join_smf_asked, kind_in, making_task, mark_asked, mark_mixed_asked, marking_of, mixed_asked, mixed_by, named_in, new_cantus_asked, number_at, picture_asked, print_asked, said_of, search_in, subject_in, task_of, texts, wanted_in, weigh_asked, weighing_with, wrap_in};
 
-use crate::command::{Command, Job, Making, MixedJob, Named, Search, Subject, Wanted};
+use crate::command::{Command, FileKind, Job, Making, MixedJob, Named, Search, Subject, Wanted};
 use crate::verbs::Verb;
 use cert_text::Form;
 use clap::ArgMatches;
@@ -27,6 +27,9 @@ const GREATEST_WRAP: u32 = 1_000;
 
 /// The greatest number of one that is sought in order.
 const LAST_NTH: u32 = 10_000;
+
+/// The greatest number of names that a class has.
+const MOST_NAMES: usize = 512;
 
 /// The greatest number of a drill.
 const LAST_DRILL: u32 = 1_000_000;
@@ -381,15 +384,42 @@ fn cantus_asked<'a>(matches: &ArgMatches<'a>) -> Option<Command<'a>>
     Some(Command::Make(cantus_of(name, sheet)))
 }
 
+/// What the files of a class are: texts, or MIDI files where there is a lesson.
+fn kind_of(lesson: Option<&str>, is_midi: bool, top_first: bool) -> Option<FileKind>
+    ensures { result ≡ kind_in (option_map (λ text. text.now) lesson.entry) is_midi top_first }
+{
+    match (lesson, is_midi, top_first) {
+        (_, false, false) => Some(FileKind::Text),
+        (_, false, true) => None,
+        (None, true, _) => None,
+        (Some(_), true, top_first) => Some(FileKind::Midi { top_first }),
+    }
+}
+
+/// The same, by the words.
+fn files_of(matches: &ArgMatches<'_>) -> Option<FileKind>
+    ensures { result ≡ files_in (rows_of (found_of matches.now)) }
+{
+    let lesson = value(matches, "lesson");
+    let is_midi = is_set(matches, "midi");
+    let top_first = is_set(matches, "top-first");
+    kind_of(lesson, is_midi, top_first)
+}
+
 /// Marking a class by itself; or by a lesson or going on, whatever its files are.
-fn classing_of<'a>(list: &'a str, lesson: Option<&'a str>, going_on: bool) -> Command<'a>
-    ensures asked { task_of result
-        ≡ classing_of list.entry.now (option_map (λ text. text.now) lesson.entry) going_on }
+fn classing_of<'a>(
+    list: &'a str,
+    lesson: Option<&'a str>,
+    kind: FileKind,
+    going_on: bool,
+) -> Command<'a>
+    ensures asked { task_of result ≡ classing_of list.entry.now (option_map (λ text. text.now)
+        lesson.entry) kind going_on }
     ensures head { HasHead result }
 {
     match lesson {
         None if !going_on => Command::Make(Making::Class { list }),
-        lesson => Command::WholeClass { list, lesson },
+        lesson => Command::WholeClass { list, lesson, kind },
     }
 }
 
@@ -399,9 +429,53 @@ fn class_asked<'a>(matches: &ArgMatches<'a>) -> Option<Command<'a>>
     ensures head { IfSome result HasHead }
 {
     let list = value(matches, "LIST")?;
+    let kind = files_of(matches)?;
     let lesson = value(matches, "lesson");
     let going_on = is_set(matches, "keep-going");
-    Some(classing_of(list, lesson, going_on))
+    Some(classing_of(list, lesson, kind, going_on))
+}
+
+/// The same of files with these names.
+fn filing_of<'a>(
+    names: &'a [String],
+    lesson: Option<&'a str>,
+    kind: FileKind,
+    going_on: bool,
+) -> Command<'a>
+    ensures asked { task_of result ≡ filing_of (texts names.entry.now) (option_map (λ text. text.now)
+        lesson.entry) kind going_on }
+    ensures head { HasHead result }
+{
+    match lesson {
+        None if !going_on => Command::Make(Making::ClassFiles { names }),
+        lesson => Command::WholeFiles {
+            names,
+            lesson,
+            kind,
+        },
+    }
+}
+
+/// Whether there are as many names as a list may have.
+fn are_a_class(names: &[String]) -> bool
+    ensures { result ≡ are_a_class (texts names.now) }
+{
+    1 <= names.len() && names.len() <= MOST_NAMES
+}
+
+/// `class`, on these names.
+pub fn files_asked<'a>(names: &'a [String], matches: &ArgMatches<'a>) -> Option<Command<'a>>
+    ensures asked { option_map task_of result ≡ files_asked (texts names.entry.now)
+        (rows_of (found_of matches.now)) }
+    ensures head { IfSome result HasHead }
+{
+    if !are_a_class(names) {
+        return None;
+    }
+    let kind = files_of(matches)?;
+    let lesson = value(matches, "lesson");
+    let going_on = is_set(matches, "keep-going");
+    Some(filing_of(names, lesson, kind, going_on))
 }
 
 /// `canon`, on the text of a canon in a file.

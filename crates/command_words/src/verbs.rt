@@ -132,6 +132,8 @@ pub enum Part {
     Lesson,
     /// A class is told of whole, also where a file can't be read.
     KeepGoing,
+    /// The files of a class are MIDI files.
+    Midi,
     /// The mode of a MIDI file.
     Mode,
     /// The species of a MIDI file.
@@ -194,7 +196,16 @@ impl Verb {
             ),
             Verb::JoinSmf => ("joinsmf", &[Part::Lessons, Part::File, Part::TopFirst]),
             Verb::Drill => ("drill", &[Part::Number, Part::BySharper]),
-            Verb::Class => ("class", &[Part::List, Part::Lesson, Part::KeepGoing]),
+            Verb::Class => (
+                "class",
+                &[
+                    Part::List,
+                    Part::Lesson,
+                    Part::KeepGoing,
+                    Part::Midi,
+                    Part::TopFirst,
+                ],
+            ),
             Verb::Canon => ("canon", &[Part::File, Part::Sheet, Part::Budget, Part::Nth]),
             Verb::Mixed => (
                 "mixed",
@@ -279,6 +290,7 @@ impl Part {
             Part::Penalty => "penalty",
             Part::Lesson => "lesson",
             Part::KeepGoing => "keep-going",
+            Part::Midi => "midi",
             Part::Mode => "mode",
             Part::Species => "species",
             Part::Voice => "voice",
@@ -314,6 +326,7 @@ impl Part {
             Part::With | Part::Mode | Part::Species | Part::Voice | Part::Cantus => Kind::Needed,
             Part::Penalty
             | Part::KeepGoing
+            | Part::Midi
             | Part::TopFirst
             | Part::BySharper
             | Part::CantusAlone => Kind::Flag,

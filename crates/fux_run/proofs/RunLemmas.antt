@@ -10,7 +10,8 @@ use Rattle.works.specs.declared.complaint.Complaint.TheVariants.{Usage, Refused,
 use Rattle.works.specs.declared.work.Output.{Output}
 use Rattle.works.specs.declared.work.Verdict.{Verdict}
 use Rattle.works.specs.declared.work.Verdict.TheVariants.{Favorable, Unfavorable, Spent}
-use Rattle.command_words.specs.Commands.{Task, whole_class}
+use Rattle.command_words.specs.Commands.{Task, whole_class, whole_files}
+use Rattle.command_words.specs.declared.command.FileKind.{FileKind}
 use Rattle.works.specs.TaskFiles.{name_in, names_in, names_within}
 use Rattle.fux_run.specs.Tellings.{complaint_status, fux_line}
 use Rattle.works.specs.Blame.{Blames, IsUnserved}
@@ -20,7 +21,7 @@ use Rattle.fux_run.specs.declared.status.Status.TheVariants as status
 use Rattle.works.specs.Endings.{Ended, IsCut, IsUnread, IsWritten, IsRefused, work_output}
 use Rattle.fux_run.specs.Runs.{EndedAs, EndsAs, EndsUnread, IsDone, IsStopped, result_status, result_line}
 use Rattle.fux_run.specs.Statuses.{code_of, verdict_status}
-use Rattle.works.specs.Works.{AllHave, Files, IsOfCauses, IsReadyFor, TellsCauses, Works}
+use Rattle.works.specs.Works.{AllHave, Files, IsOfCauses, IsReadyFor, TellsCauses, TellsNamedCauses, Works}
 use Rattle.works.proofs.CheckLemmas.{part_is_there, refused_unready, written_is_there}
 use Rattle.fux_run.proofs.SinkLemmas.{appended-none}
 use Rattle.works.proofs.WorkLemmas.{all_are_there, first_is_missing, none_missing, only_bytes, works_so}
@@ -43,12 +44,20 @@ done_not_stopped : (code : ℕ) → IsDone code → IsStopped code → ⊥
 done_not_stopped code done stopped = grind arith
 
 -- the report of a class that a run wrote
-pub ran_causes : (list : List ℕ) (lesson : Option (List ℕ)) (files : Files) (rose : Type 0) (Holds : Output → Type 0)
-    (result : Result Verdict Complaint) (code : ℕ) → code ≡ code_of (result_status result) → IsDone code
-    → IsOfCauses (whole_class list lesson) files rose (λ verdict. Holds) result
-    → TellsCauses list lesson files rose Holds
-ran_causes list lesson files rose Holds (Ok verdict) code status done told = told
-ran_causes list lesson files rose Holds (Err complaint) code status done told =
+pub ran_causes : (list : List ℕ) (lesson : Option (List ℕ)) (kind : FileKind) (files : Files) (rose : Type 0)
+    (Holds : Output → Type 0) (result : Result Verdict Complaint) (code : ℕ) → code ≡ code_of (result_status result) → IsDone code
+    → IsOfCauses (whole_class list lesson kind) files rose (λ verdict. Holds) result
+    → TellsCauses list lesson kind files rose Holds
+ran_causes list lesson kind files rose Holds (Ok verdict) code status done told = told
+ran_causes list lesson kind files rose Holds (Err complaint) code status done told =
+    absurd (done_is_none code complaint done status)
+
+pub ran_named_causes : (names : List (List ℕ)) (lesson : Option (List ℕ)) (kind : FileKind) (files : Files) (rose : Type 0)
+    (Holds : Output → Type 0) (result : Result Verdict Complaint) (code : ℕ) → code ≡ code_of (result_status result)
+    → IsDone code → IsOfCauses (whole_files names lesson kind) files rose (λ verdict. Holds) result
+    → TellsNamedCauses names lesson kind files rose Holds
+ran_named_causes names lesson kind files rose Holds (Ok verdict) code status done told = told
+ran_named_causes names lesson kind files rose Holds (Err complaint) code status done told =
     absurd (done_is_none code complaint done status)
 
 -- what holds of a run that wrote its output

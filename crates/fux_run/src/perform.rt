@@ -4,18 +4,18 @@ ghost use Rattle.std.specs.Prelude.{◌≡◌, IfErr, OnOk};
 ghost use Rattle.fux_port.specs.Counts.{Rose};
 ghost use Rattle.fux_port.specs.Written.{appended};
 ghost use Rattle.works.specs.Blame.{Blames, BlamesNoFile, IsUnserved, ServesTask};
-ghost use Rattle.command_words.specs.Commands.{HasHead, HasMidiHead, making_task, sheet_named, task_of};
+ghost use Rattle.command_words.specs.Commands.{HasHead, HasMidiHead, making_task, sheet_named, task_of, texts};
 ghost use Rattle.command_words.specs.Commands as tasks;
 ghost use Rattle.works.specs.Endings.{Ended, EndsOn};
 ghost use Rattle.works.specs.Little.{ReadsLittle};
 ghost use Rattle.works.specs.Near.{StopsNear};
 ghost use Rattle.works.specs.Works.{IsOfCauses};
 
-use command_words::{Command, Making};
+use command_words::{Command, FileKind, Making};
 use fux_port::{Failed, Shelf, Sink, write_all};
 use std::alloc::Global;
 use std::thread::Threads;
-use works::{Complaint, Verdict, make, perform_cantus, perform_certify, whole_class};
+use works::{Complaint, Verdict, make, perform_cantus, perform_certify, whole_class, whole_files};
 
 /// Does the work of a command, and writes what comes of it.
 pub fn perform<'a, F: Shelf, K: Sink, R: Threads + Sync>(
@@ -44,7 +44,14 @@ pub fn perform<'a, F: Shelf, K: Sink, R: Threads + Sync>(
 {
     match command {
         Command::Make(making) => perform_making(rt, alloc, making, shelf, out),
-        Command::WholeClass { list, lesson } => perform_class(alloc, list, lesson, shelf, out),
+        Command::WholeClass { list, lesson, kind } => {
+            perform_class(alloc, list, lesson, kind, shelf, out)
+        }
+        Command::WholeFiles {
+            names,
+            lesson,
+            kind,
+        } => perform_files(alloc, names, lesson, kind, shelf, out),
         Command::Certify {
             name,
             sheet,
@@ -94,24 +101,58 @@ fn perform_class<'a, F: Shelf, K: Sink>(
     alloc: Global,
     list: &'a str,
     lesson: Option<&'a str>,
+    kind: FileKind,
     shelf: &mut F,
     out: &mut K,
 ) -> Result<Verdict, Complaint<'a>>
     ensures ended { EndsOn F.files F.faults K.written K.faults K.serves
-        (Ended (tasks.whole_class list.entry.now (sheet_named lesson.entry))) shelf.old shelf.new
+        (Ended (tasks.whole_class list.entry.now (sheet_named lesson.entry) kind)) shelf.old shelf.new
         out.old out.new result }
     ensures served { ServesTask (F.serves shelf.old) (F.files shelf.old)
-        (tasks.whole_class list.entry.now (sheet_named lesson.entry)) → IfErr result BlamesNoFile }
+        (tasks.whole_class list.entry.now (sheet_named lesson.entry) kind) → IfErr result BlamesNoFile }
     ensures blamed { IfErr result (Blames (IsUnserved (F.serves shelf.old) (F.files shelf.old)
-        (tasks.whole_class list.entry.now (sheet_named lesson.entry)))) }
-    ensures little { ReadsLittle (tasks.whole_class list.entry.now (sheet_named lesson.entry))
+        (tasks.whole_class list.entry.now (sheet_named lesson.entry) kind))) }
+    ensures little { ReadsLittle (tasks.whole_class list.entry.now (sheet_named lesson.entry) kind)
         (F.files shelf.old) (F.given shelf.old) (F.given shelf.new) }
-    ensures causes { IsOfCauses (tasks.whole_class list.entry.now (sheet_named lesson.entry))
+    ensures causes { IsOfCauses (tasks.whole_class list.entry.now (sheet_named lesson.entry) kind)
         (F.files shelf.old) (Rose (F.faults shelf.old) (F.faults shelf.new))
         (λ verdict told. K.written out.new ≡ appended (K.written out.old) told.bytes) result }
     ensures files { F.files shelf.new ≡ F.files shelf.old }
 {
-    let output = whole_class(alloc, list, lesson, shelf)?;
+    let output = whole_class(alloc, list, lesson, kind, shelf)?;
+    match write_all(out, output.bytes.as_slice()) {
+        Ok(()) => Ok(output.verdict),
+        Err(Failed) => Err(Complaint::Unwritable),
+    }
+}
+
+/// The same of the files of names that the words give.
+fn perform_files<'a, F: Shelf, K: Sink>(
+    alloc: Global,
+    names: &'a [String],
+    lesson: Option<&'a str>,
+    kind: FileKind,
+    shelf: &mut F,
+    out: &mut K,
+) -> Result<Verdict, Complaint<'a>>
+    ensures ended { EndsOn F.files F.faults K.written K.faults K.serves
+        (Ended (tasks.whole_files (texts names.entry.now) (sheet_named lesson.entry) kind))
+        shelf.old shelf.new out.old out.new result }
+    ensures served { ServesTask (F.serves shelf.old) (F.files shelf.old)
+        (tasks.whole_files (texts names.entry.now) (sheet_named lesson.entry) kind)
+        → IfErr result BlamesNoFile }
+    ensures blamed { IfErr result (Blames (IsUnserved (F.serves shelf.old) (F.files shelf.old)
+        (tasks.whole_files (texts names.entry.now) (sheet_named lesson.entry) kind))) }
+    ensures little { ReadsLittle
+        (tasks.whole_files (texts names.entry.now) (sheet_named lesson.entry) kind)
+        (F.files shelf.old) (F.given shelf.old) (F.given shelf.new) }
+    ensures causes { IsOfCauses
+        (tasks.whole_files (texts names.entry.now) (sheet_named lesson.entry) kind)
+        (F.files shelf.old) (Rose (F.faults shelf.old) (F.faults shelf.new))
+        (λ verdict told. K.written out.new ≡ appended (K.written out.old) told.bytes) result }
+    ensures files { F.files shelf.new ≡ F.files shelf.old }
+{
+    let output = whole_files(alloc, names, lesson, kind, shelf)?;
     match write_all(out, output.bytes.as_slice()) {
         Ok(()) => Ok(output.verdict),
         Err(Failed) => Err(Complaint::Unwritable),

@@ -6,7 +6,8 @@ ghost use Rattle.fux_port.specs.Files.{IsMissing};
 ghost use Rattle.fux_port.specs.Promises.{Fails, TakesAll};
 ghost use Rattle.fux_port.specs.Written.{appended};
 ghost use Rattle.works.specs.Blame.{Blames, BlamesNoFile, IsUnserved, ServesTask};
-ghost use Rattle.command_words.specs.Commands.{Task, asked, texts, whole_class};
+ghost use Rattle.command_words.specs.declared.command.FileKind.{FileKind};
+ghost use Rattle.command_words.specs.Commands.{Task, asked, texts, whole_class, whole_files};
 ghost use Rattle.works.specs.TaskFiles.{name_in, names_in, names_within};
 ghost use Rattle.fux_run.specs.Tellings.{fux_line};
 ghost use Rattle.fux_run.specs.Runs.{EndedBy, EndsAs, EndsUnread, IsDone, IsStopped, result_line, result_status};
@@ -15,7 +16,7 @@ ghost use Rattle.works.specs.Little.{ReadsLittle};
 ghost use Rattle.works.specs.Near.{StopsNear};
 ghost use Rattle.fux_run.specs.Sinks.{Gets};
 ghost use Rattle.fux_run.specs.Statuses.{code_of};
-ghost use Rattle.works.specs.Works.{AllHave, AreThere, IsOfCauses, IsReadyFor, TellsCauses, Works};
+ghost use Rattle.works.specs.Works.{AllHave, AreThere, IsOfCauses, IsReadyFor, TellsCauses, TellsNamedCauses, Works};
 
 use crate::perform::perform;
 use crate::status::Status;
@@ -80,9 +81,14 @@ pub fn run<F: Shelf, K: Sink, E: Sink, R: Threads + Sync>(
 
     // The report of a class in which each name has its place tells of a file that it can't be read
     // only where a read failed by the shelf's fault, or the file is missing.
-    ensures causes { (list : List ℕ) → (lesson : Option (List ℕ)) → asked (texts words.now)
-        ≡ Some (whole_class list lesson) → IsDone result
-        → TellsCauses list lesson (F.files shelf.old)
+    ensures causes { (list : List ℕ) → (lesson : Option (List ℕ)) → (kind : FileKind)
+        → asked (texts words.now) ≡ Some (whole_class list lesson kind) → IsDone result
+        → TellsCauses list lesson kind (F.files shelf.old)
+        (Rose (F.faults shelf.old) (F.faults shelf.new))
+        (λ told. K.written out.new ≡ appended (K.written out.old) told.bytes) }
+    ensures named_causes { (names : List (List ℕ)) → (lesson : Option (List ℕ))
+        → (kind : FileKind) → asked (texts words.now) ≡ Some (whole_files names lesson kind)
+        → IsDone result → TellsNamedCauses names lesson kind (F.files shelf.old)
         (Rose (F.faults shelf.old) (F.faults shelf.new))
         (λ told. K.written out.new ≡ appended (K.written out.old) told.bytes) }
 

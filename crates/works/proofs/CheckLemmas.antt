@@ -33,7 +33,7 @@ use Rattle.class_marker.specs.Markings.{IsContent}
 use Rattle.fux_text.proofs.ReadTexts.{texts-faultless}
 use Rattle.fux_text.specs.Texts.{IsTextOf}
 use Rattle.works.specs.Classes.{RefusesList}
-use Rattle.command_words.specs.Commands.{Task, certify, certify_cantus, check, check_cantus, class_report, drill, explain, find_canon, find_cantus, fromsmf, join_smf, mark_answer, on_exercise, on_mixed, whole_class}
+use Rattle.command_words.specs.Commands.{Task, certify, certify_cantus, check, check_cantus, class_files, class_report, drill, explain, find_canon, find_cantus, fromsmf, join_smf, mark_answer, on_exercise, on_mixed, whole_class, whole_files}
 use Rattle.works.specs.TaskFiles.{as_list, limit_in, name_in, names_in, names_listed, names_within}
 use Rattle.works.specs.Complaints.{name_text}
 use Rattle.works.specs.Endings.{IsCut, IsMade, IsRefused, IsUnread, IsWritten, SaysWithin, work_output}
@@ -141,7 +141,9 @@ output_is_there (fromsmf file head) files name bytes output made one missing = o
 output_is_there (join_smf lesson file top_first) files name bytes output made one missing = omega (arith, one.1)
 output_is_there (drill number by_sharper) files name bytes output made one missing = omega (arith, one.1)
 output_is_there (mark_answer file lesson) files name bytes output made one missing = omega (arith, one.1)
-output_is_there (whole_class list lesson) files name bytes output made one missing = omega (arith, one.1)
+output_is_there (class_files names) files name bytes output made one missing = omega (arith, one.1)
+output_is_there (whole_class list lesson kind) files name bytes output made one missing = omega (arith, one.1)
+output_is_there (whole_files names lesson kind) files name bytes output made one missing = omega (arith, one.1)
 output_is_there (find_canon file sheet search) files name bytes output made one missing = omega (arith, one.1)
 output_is_there (find_cantus wanted sheet search) files name bytes output made one missing = omega (arith, one.1)
 output_is_there (certify_cantus wanted sheet budget) files name bytes output made one missing = omega (arith, one.1)
@@ -261,7 +263,9 @@ not_refused (fromsmf file head) files bytes refusal made ready = ready
 not_refused (join_smf lesson file top_first) files bytes refusal made ready = ready
 not_refused (drill number by_sharper) files bytes refusal made ready = ready
 not_refused (mark_answer file lesson) files bytes refusal made ready = ready
-not_refused (whole_class list lesson) files bytes refusal made ready = ready
+not_refused (class_files names) files bytes refusal made ready = ready
+not_refused (whole_class list lesson kind) files bytes refusal made ready = ready
+not_refused (whole_files names lesson kind) files bytes refusal made ready = ready
 not_refused (find_canon file sheet search) files bytes refusal made ready = ready
 not_refused (find_cantus wanted sheet search) files bytes refusal made ready = ready
 not_refused (certify_cantus wanted sheet budget) files bytes refusal made ready = ready

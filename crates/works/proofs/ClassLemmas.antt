@@ -1,5 +1,6 @@
--- What `class` makes of its list (`class_made`, `list_refused`), and what was read of the files
--- that it names (`next_read`, `place_unread`, `class_in`, `name_unread`).
+-- What `class` makes of its list (`class_made`, `list_refused`) and of names that the words give
+-- (`files_made`), and what was read of the files (`next_read`, `place_unread`, `class_in`,
+-- `name_unread`).
 use Rattle.std.proofs.Common.{◌≡◌, ◌⊎◌, ℕ, zero, suc, ◌+◌, ◌<◌, List, [], ◌∷◌, ◌++◌, length, map, take, drop, zip, get_or, Global, Result, Ok, Err, inl, inr, refl, ap, sym, subst, ◌∙◌, arith}
 use Rattle.std.specs.Prelude.{String, string_bytes}
 use Rattle.std.specs.List.{AllZip}
@@ -16,7 +17,7 @@ use Rattle.works.specs.declared.refusal.Refusal.TheVariants as refusal
 use Rattle.works.specs.declared.work.Output.{Output}
 use Rattle.works.specs.declared.work.Verdict.{Verdict}
 use Rattle.works.specs.Classes.{IsClass, IsEntryOf, class_verdict}
-use Rattle.command_words.specs.Commands.{class_report}
+use Rattle.command_words.specs.Commands.{class_files, class_report}
 use Rattle.works.specs.TaskFiles.{names_listed}
 use Rattle.works.specs.Complaints.{name_text, refusal_text}
 use Rattle.works.specs.Listed.{IsClassIn, IsUnreadAt, ReportsFiles, name_at}
@@ -206,3 +207,23 @@ module _ (list : List ℕ) (files : Files) (rose : Type 0) (text : Content) (rea
   list_refused line Usage fault says = absurd says
   list_refused line (Unreadable name) fault says = absurd says
   list_refused line Unwritable fault says = absurd says
+
+-- ---- files that the words name
+
+pub files_made : (names : List (List ℕ)) (files : Files) (rose : Type 0) (told : Result Output Complaint)
+    → ReportsFiles files rose names told → IsMade (class_files names) files rose told
+files_made names files rose (Ok output) made =
+    record { bytes = made.texts; had = made.had; work = Ok output; made = made.reported; holds = refl }
+files_made names files rose (Err (Unreadable name)) made = inl made
+files_made names files rose (Err OutOfMemory) made = tt
+files_made names files rose (Err Usage) made = absurd made
+files_made names files rose (Err (Refused said)) made = absurd made
+files_made names files rose (Err Unwritable) made = absurd made
+
+-- a word is the name at its place
+pub word_at : (names : List (String Global)) (place : ℕ) (name : String Global) (word : List ℕ) → place < length names
+    → name ≡ get_or names place name → word ≡ string_bytes name → word ≡ name_at (map string_bytes names) place
+word_at names place name word within named is =
+    let many : place < length (map string_bytes names) = rw length-map within in
+    is ∙ ap string_bytes named ∙ sym (map_at place names name within)
+    ∙ same_at place (map string_bytes names) (string_bytes name) [] many

@@ -1,5 +1,5 @@
 -- A command that reads files within its work: how much (`check_little`, `cantus_little`,
--- `class_little`, `whole_little`), and that it reads on to one that it can't read (`reads_on`, `reads_on_alone`,
+-- `class_little`, `whole_little`, `named_little`), and that it reads on to one that it can't read (`reads_on`, `reads_on_alone`,
 -- `list_reads_on`).
 use Rattle.std.proofs.Common.{◌≡◌, ℕ, ◌+◌, ◌*◌, ◌≤◌, List, [], ◌∷◌, Contains, length, map, Global, Option, Result, Ok, Err, ap, refl, sym, subst, ◌∙◌, inr, arith}
 use Rattle.std.specs.Prelude.{String, string_bytes}
@@ -8,8 +8,10 @@ use Rattle.answer_classes.specs.LooseLists.{loose_names}
 use Rattle.class_marker.specs.Lists.{listed_names}
 use Rattle.class_marker.specs.Markings.{IsContent}
 use Rattle.class_marker.specs.declared.one.Text.{Text as Content}
+use Rattle.command_words.specs.declared.command.FileKind.{FileKind}
+use Rattle.command_words.specs.declared.command.FileKind.TheVariants as read_as
 use Rattle.command_words.specs.declared.command.Wanted.{Wanted}
-use Rattle.command_words.specs.Commands.{check, check_cantus, class_report, whole_class}
+use Rattle.command_words.specs.Commands.{check, check_cantus, class_report, whole_class, whole_files}
 use Rattle.works.specs.declared.work.Output.{Output}
 use Rattle.works.specs.declared.work.Unmade.{Unmade}
 use Rattle.works.specs.declared.work.Unmade.TheVariants as unmade
@@ -18,6 +20,7 @@ use Rattle.works.specs.Checked.{AnswersWithin}
 use Rattle.works.specs.Little.{ReadsLittle}
 use Rattle.works.specs.TaskFiles.{as_list, names_listed}
 use Rattle.works.specs.Texts.{Work}
+use Rattle.works.specs.WholeClasses.{limit_of}
 use Rattle.works.specs.Works.{AllMayHave, AreContents, AreRead, Files, IsRead, IsReadySheet, IsReadyText, OnTexts}
 use Rattle.works.proofs.MakeLemmas.{have_bytes}
 
@@ -44,28 +47,42 @@ class_little files list content names old first new read listed one two =
     ap (λ found. length (names_listed found)) (listed read.bytes read.content) ∙ length-map names string_bytes in
     inr record { bytes = read.bytes ∷ []; had = (read.had, tt); most = omega (arith, one, two, count) }
 
-pub loose_little : (content : Content) (names : List (String Global)) (old new : ℕ)
+pub loose_little : (kind : FileKind) (content : Content) (names : List (String Global)) (old new : ℕ)
     → ((bytes : List ℕ) → IsContent 65536 content bytes → loose_names bytes ≡ Ok (map string_bytes names))
-    → new ≤ old + 65537 * length names → (bytes : List ℕ) → IsContent 65536 content bytes
-    → new ≤ old + 65537 * length (names_listed (loose_names bytes))
-loose_little content names old new listed most bytes is =
+    → new ≤ old + (limit_of kind + 1) * length names → (bytes : List ℕ) → IsContent 65536 content bytes
+    → new ≤ old + (limit_of kind + 1) * length (names_listed (loose_names bytes))
+loose_little kind content names old new listed most bytes is =
     let count : length (names_listed (loose_names bytes)) ≡ length names =
     ap (λ found. length (names_listed found)) (listed bytes is) ∙ length-map names string_bytes in
-    omega (arith, most, count)
+    subst (λ n. new ≤ old + (limit_of kind + 1) * n) (sym count) most
 
-pub whole_little : (files : Files) (list : List ℕ) (lesson : Option (List ℕ)) (text : Content) (given : Option Content)
+-- of one file more at most a byte beyond the limit
+pub one_little : (kind : FileKind) (old now next place : ℕ) → now ≤ old + (limit_of kind + 1) * place
+    → next ≤ now + (limit_of kind + 1) → next ≤ old + (limit_of kind + 1) * (place + 1)
+one_little read_as.Text old now next place before one = omega (arith, before, one)
+one_little (read_as.Midi top_first) old now next place before one = omega (arith, before, one)
+
+pub whole_little : (files : Files) (list : List ℕ) (lesson : Option (List ℕ)) (kind : FileKind) (text : Content) (given : Option Content)
     (old first second new : ℕ) → AreRead 65536 files (list ∷ as_list lesson) (text ∷ as_list given)
     → first ≤ old + 65537 → second ≤ first + 65537 * length (as_list lesson)
     → ((bytes : List ℕ) → IsContent 65536 text bytes
-    → new ≤ second + 65537 * length (names_listed (loose_names bytes)))
-    → ReadsLittle (whole_class list lesson) files old new
-whole_little files list lesson text given old first second new read one two three =
+    → new ≤ second + (limit_of kind + 1) * length (names_listed (loose_names bytes)))
+    → ReadsLittle (whole_class list lesson kind) files old new
+whole_little files list lesson kind text given old first second new read one two three =
     let more = have_bytes 65536 files (as_list lesson) (as_list given) read.1 in
     inr record {
       bytes = read.0.bytes ∷ more.bytes;
       had = (read.0.had, more.had);
       most = omega (arith, one, two, three read.0.bytes read.0.content);
     }
+
+pub named_little : (files : Files) (names : List (List ℕ)) (lesson : Option (List ℕ)) (kind : FileKind)
+    (given : Option Content) (old first new : ℕ) → AreRead 65536 files (as_list lesson) (as_list given)
+    → first ≤ old + 65537 * length (as_list lesson) → new ≤ first + (limit_of kind + 1) * length names
+    → ReadsLittle (whole_files names lesson kind) files old new
+named_little files names lesson kind given old first new read one two =
+    let known = have_bytes 65536 files (as_list lesson) (as_list given) read in
+    inr record { bytes = known.bytes; had = known.had; most = omega (arith, one, two) }
 
 -- a list whose lines aren't at fault is read on from
 pub list_reads_on : (files : Files) (list : List ℕ) (content : Content) (names : List (String Global)) (name : List ℕ)

@@ -7,10 +7,11 @@ use Rattle.works.specs.declared.work.Unmade.{Unmade}
 use Rattle.works.specs.declared.work.Unmade.TheVariants as unmade
 use Rattle.works.specs.declared.classing.Unread.{Unread}
 use Rattle.works.specs.declared.classing.Unread.TheVariants as unread
-use Rattle.command_words.specs.Commands.{Task, class_report, whole_class}
+use Rattle.command_words.specs.Commands.{Task, class_report, whole_class, whole_files}
 use Rattle.works.specs.Complaints.{name_text}
 use Rattle.works.specs.Listed.{name_at}
 use Rattle.works.specs.TaskFiles.{limit_in, names_in, names_within}
+use Rattle.works.specs.WholeClasses.{limit_of}
 use Rattle.works.specs.Works.{AllMayHave, Files, IsReadyFor}
 
 -- each read of the files of these names, up to a limit, is promised
@@ -21,7 +22,8 @@ ServesNames serves limit (name ∷ names) = ServesWhole serves name limit × Ser
 -- how many bytes of each file within its work are read at most
 abbrev pub limit_within : Task → ℕ
 limit_within (class_report list) = 65536
-limit_within (whole_class list lesson) = 65536
+limit_within (whole_class list lesson kind) = limit_of kind
+limit_within (whole_files names lesson kind) = limit_of kind
 limit_within _ = 1073741824
 
 -- each read of a command's files, before its work and within it, is promised up to the limits of

@@ -1,7 +1,7 @@
 -- How much a command reads: of each of its files at most a byte beyond the limit.
 use Rattle.std.specs.Prelude.{ℕ, ◌+◌, ◌*◌, ◌≤◌, ◌⊎◌, List, [], ◌∷◌, length}
 use Rattle.answer_classes.specs.LooseLists.{loose_names}
-use Rattle.command_words.specs.Commands.{Task, whole_class}
+use Rattle.command_words.specs.Commands.{Task, whole_class, whole_files}
 use Rattle.works.specs.Blame.{limit_within}
 use Rattle.works.specs.TaskFiles.{limit_in, names_in, names_listed, names_within}
 use Rattle.works.specs.Works.{AllMayHave, Files}
@@ -14,7 +14,8 @@ most_before task = (limit_in task + 1) * length (names_in task)
 -- the names of the files of which a report of a class tells each in its place, also that it can't
 -- be read, where the files before the work have these bytes
 abbrev pub names_told : Task → List (List ℕ) → List (List ℕ)
-names_told (whole_class list lesson) (text ∷ lessons) = names_listed (loose_names text)
+names_told (whole_class list lesson kind) (text ∷ lessons) = names_listed (loose_names text)
+names_told (whole_files names lesson kind) lessons = names
 names_told _ _ = []
 
 -- how many bytes are read at most of all these, and of those within the work: of each a byte beyond

@@ -2,7 +2,7 @@
 use Rattle.std.specs.Prelude.{ℕ, List, [], ◌∷◌, Option, Some, None, Result, Ok, Err}
 use Rattle.clap.specs.Words.{Text}
 use Rattle.class_marker.specs.Lists.{listed_names}
-use Rattle.command_words.specs.Commands.{Task, on_exercise, on_mixed, certify, check, fromsmf, join_smf, drill, mark_answer, class_report, whole_class, find_canon, find_cantus, certify_cantus, check_cantus, explain}
+use Rattle.command_words.specs.Commands.{Task, on_exercise, on_mixed, certify, check, fromsmf, join_smf, drill, mark_answer, class_report, class_files, whole_class, whole_files, find_canon, find_cantus, certify_cantus, check_cantus, explain}
 
 -- the name that a line about a refused file tells, where it tells one
 abbrev pub name_in : Task → Text
@@ -16,7 +16,9 @@ name_in (join_smf lesson name top_first) = name
 name_in (drill number by_sharper) = []
 name_in (mark_answer name lesson) = name
 name_in (class_report list) = list
-name_in (whole_class list lesson) = list
+name_in (class_files names) = []
+name_in (whole_class list lesson kind) = list
+name_in (whole_files names lesson kind) = []
 name_in (find_canon name sheet search) = name
 name_in (find_cantus wanted sheet search) = []
 name_in (certify_cantus wanted sheet budget) = []
@@ -39,7 +41,9 @@ names_in (join_smf lesson name top_first) = lesson ∷ name ∷ []
 names_in (drill number by_sharper) = []
 names_in (mark_answer name lesson) = name ∷ lesson ∷ []
 names_in (class_report list) = list ∷ []
-names_in (whole_class list lesson) = list ∷ as_list lesson
+names_in (class_files names) = names
+names_in (whole_class list lesson kind) = list ∷ as_list lesson
+names_in (whole_files names lesson kind) = as_list lesson
 names_in (find_canon name sheet search) = name ∷ as_list sheet
 names_in (find_cantus wanted sheet search) = as_list sheet
 names_in (certify_cantus wanted sheet budget) = as_list sheet
@@ -70,7 +74,9 @@ limit_in (join_smf lesson name top_first) = 1048576
 limit_in (drill number by_sharper) = 65536
 limit_in (mark_answer name lesson) = 65536
 limit_in (class_report list) = 65536
-limit_in (whole_class list lesson) = 65536
+limit_in (class_files names) = 65536
+limit_in (whole_class list lesson kind) = 65536
+limit_in (whole_files names lesson kind) = 65536
 limit_in (find_canon name sheet search) = 65536
 limit_in (find_cantus wanted sheet search) = 65536
 limit_in (certify_cantus wanted sheet budget) = 65536

@@ -1,13 +1,15 @@
 -- What `class` makes of a list where each name has its place, also that of a file that can't be
 -- read.
-use Rattle.std.specs.Prelude.{◌≡◌, ℕ, ◌⊎◌, ◌+◌, List, [], ◌∷◌, Option, Some, None, Ok, Err, is_some, string_bytes}
+use Rattle.std.specs.Prelude.{◌≡◌, ℕ, ◌⊎◌, ◌+◌, Bool, true, false, List, [], ◌∷◌, Option, Some, None, Ok, Err, string_bytes}
 use Rattle.std.specs.List.{AllZip}
 use Rattle.answer_classes.specs.declared.report.WholeReport.{WholeReport}
 use Rattle.answer_classes.specs.declared.said.Said.{Said}
-use Rattle.answer_classes.specs.declared.said.Said.TheVariants.{Told, Refused, Unread}
+use Rattle.answer_classes.specs.declared.said.Said.TheVariants.{Told, Refused, Unjoined, Unread}
 use Rattle.answer_classes.specs.LooseLists.{loose_names}
 use Rattle.answer_classes.specs.Reports.{IsReportOf, IsWholeOf, Saying}
-use Rattle.answer_classes.specs.Sayings.{IsSaid}
+use Rattle.answer_classes.specs.Sayings.{IsSaid, IsSaidJoined}
+use Rattle.command_words.specs.declared.command.FileKind.{FileKind}
+use Rattle.command_words.specs.declared.command.FileKind.TheVariants as read_as
 use Rattle.fux_grid.specs.declared.exercise.Exercise.{Exercise}
 use Rattle.fux_port.specs.Files.{IsMissing, MayHave}
 use Rattle.works.specs.declared.refusal.Refusal.{Refusal}
@@ -17,32 +19,68 @@ use Rattle.works.specs.Answered.{OnLesson}
 use Rattle.works.specs.Classes.{class_verdict}
 use Rattle.works.specs.Texts.{Work}
 
+-- ---- what is asked of the files of a class
+
+-- they are texts by themselves, texts that answer a lesson, or MIDI files that do
+pub data Sought : Type 0 where
+  alone : Sought
+  answers : (lesson : Exercise) → Sought
+  played : (lesson : Exercise) (top_first : Bool) → Sought
+
+-- what is asked by a lesson
+abbrev pub sought_by : FileKind → Exercise → Sought
+sought_by read_as.Text lesson = answers lesson
+sought_by (read_as.Midi top_first) lesson = played lesson top_first
+
+-- by itself each file is a text
+abbrev pub sought_in : FileKind → Option Exercise → Sought
+sought_in kind None = alone
+sought_in kind (Some lesson) = sought_by kind lesson
+
+-- there is a lesson
+abbrev pub is_by_lesson : Sought → Bool
+is_by_lesson alone = false
+is_by_lesson (answers lesson) = true
+is_by_lesson (played lesson top_first) = true
+
+-- how many bytes of each file are read at most
+abbrev pub limit_of : FileKind → ℕ
+limit_of read_as.Text = 65536
+limit_of (read_as.Midi top_first) = 1048576
+
 -- ---- one file
 
+-- this is said of bytes
+abbrev pub SaysOf : Sought → List ℕ → Said → Type 0
+SaysOf alone = IsSaid None
+SaysOf (answers lesson) = IsSaid (Some lesson)
+SaysOf (played lesson top_first) = IsSaidJoined lesson top_first
+
 -- this is said of the bytes of a file
-pub record SaysFile (files : Option (List ℕ → Option (List ℕ))) (lesson : Option Exercise) (name : List ℕ) (said : Said)
+pub record SaysFile (files : Option (List ℕ → Option (List ℕ))) (sought : Sought) (name : List ℕ) (said : Said)
     : Type 0 where
   pub bytes : List ℕ
   pub had : MayHave files name bytes
-  pub is : IsSaid lesson bytes said
+  pub is : SaysOf sought bytes said
 
 -- this is said of the file of a name; that it can't be read only for a cause: the file is missing,
 -- or a read failed by the shelf's fault
-abbrev pub IsSaidIn : Option (List ℕ → Option (List ℕ)) → Type 0 → Option Exercise → List ℕ → Said → Type 0
-IsSaidIn files failed lesson name (Told lines) = SaysFile files lesson name (Told lines)
-IsSaidIn files failed lesson name (Refused why) = SaysFile files lesson name (Refused why)
-IsSaidIn files failed lesson name Unread = failed ⊎ IsMissing files name
+abbrev pub IsSaidIn : Option (List ℕ → Option (List ℕ)) → Type 0 → Sought → List ℕ → Said → Type 0
+IsSaidIn files failed sought name (Told lines) = SaysFile files sought name (Told lines)
+IsSaidIn files failed sought name (Refused why) = SaysFile files sought name (Refused why)
+IsSaidIn files failed sought name (Unjoined fault) = SaysFile files sought name (Unjoined fault)
+IsSaidIn files failed sought name Unread = failed ⊎ IsMissing files name
 
-abbrev pub IsSayingIn : Option (List ℕ → Option (List ℕ)) → Type 0 → Option Exercise → List ℕ → Saying → Type 0
-IsSayingIn files failed lesson name saying = (saying.0 ≡ name) × IsSaidIn files failed lesson name saying.1
+abbrev pub IsSayingIn : Option (List ℕ → Option (List ℕ)) → Type 0 → Sought → List ℕ → Saying → Type 0
+IsSayingIn files failed sought name saying = (saying.0 ≡ name) × IsSaidIn files failed sought name saying.1
 
 -- ---- all files of a class
 
 -- what is said of the files of these names
-pub record AreSaid (files : Option (List ℕ → Option (List ℕ))) (failed : Type 0) (lesson : Option Exercise)
+pub record AreSaid (files : Option (List ℕ → Option (List ℕ))) (failed : Type 0) (sought : Sought)
     (names : List (List ℕ)) (report : WholeReport) : Type 0 where
   pub sayings : List Saying
-  pub each : AllZip (IsSayingIn files failed lesson) names sayings
+  pub each : AllZip (IsSayingIn files failed sought) names sayings
   pub counted : IsReportOf sayings report
 
 -- the output of a whole report
@@ -53,34 +91,47 @@ whole_output report = record {
 }
 
 -- an output is the report of the files of these names
-pub record IsWholeReport (files : Option (List ℕ → Option (List ℕ))) (failed : Type 0) (lesson : Option Exercise)
+pub record IsWholeReport (files : Option (List ℕ → Option (List ℕ))) (failed : Type 0) (sought : Sought)
     (names : List (List ℕ)) (output : Output) : Type 0 where
   pub sayings : List Saying
-  pub each : AllZip (IsSayingIn files failed lesson) names sayings
+  pub each : AllZip (IsSayingIn files failed sought) names sayings
   pub report : WholeReport
-  pub whole : IsWholeOf (is_some lesson) sayings report
+  pub whole : IsWholeOf (is_by_lesson sought) sayings report
   pub written : output ≡ whole_output report
 
 -- an output is the report of the files that a list names
-pub record ReportsList (files : Option (List ℕ → Option (List ℕ))) (failed : Type 0) (lesson : Option Exercise) (list : List ℕ)
+pub record ReportsList (files : Option (List ℕ → Option (List ℕ))) (failed : Type 0) (sought : Sought) (list : List ℕ)
     (output : Output) : Type 0 where
   pub names : List (List ℕ)
   pub listed : loose_names list ≡ Ok names
-  pub reported : IsWholeReport files failed lesson names output
+  pub reported : IsWholeReport files failed sought names output
 
 -- a refusal of bytes that are no list: it tells the first line at fault
 abbrev pub RefusesLoose : List ℕ → Refusal → Type 0
 RefusesLoose list (refusal.List line) = loose_names list ≡ Err line
 RefusesLoose list _ = ⊥
 
--- `class` makes this of a list, by a lesson where there is one
-abbrev pub ReportsBy : Option (List ℕ → Option (List ℕ)) → Type 0 → List ℕ → Option Exercise → Work → Type 0
-ReportsBy files failed list lesson (Ok output) = ReportsList files failed lesson list output
-ReportsBy files failed list lesson (Err refusal) = RefusesLoose list refusal
+-- `class` makes this of a list
+abbrev pub ReportsBy : Option (List ℕ → Option (List ℕ)) → Type 0 → List ℕ → Sought → Work → Type 0
+ReportsBy files failed list sought (Ok output) = ReportsList files failed sought list output
+ReportsBy files failed list sought (Err refusal) = RefusesLoose list refusal
 
 -- `class` makes this of a list, and of the text of a lesson where one is given
-abbrev pub ReportsWhole : Option (List ℕ → Option (List ℕ)) → Type 0 → List ℕ → List (List ℕ) → Work → Type 0
-ReportsWhole files failed list [] work = ReportsBy files failed list None work
-ReportsWhole files failed list (given ∷ []) work =
-    OnLesson (λ lesson. ReportsBy files failed list (Some lesson)) given work
-ReportsWhole files failed list _ work = ⊥
+abbrev pub ReportsWhole : Option (List ℕ → Option (List ℕ)) → Type 0 → FileKind → List ℕ → List (List ℕ) → Work → Type 0
+ReportsWhole files failed kind list [] work = ReportsBy files failed list alone work
+ReportsWhole files failed kind list (given ∷ []) work =
+    OnLesson (λ lesson. ReportsBy files failed list (sought_by kind lesson)) given work
+ReportsWhole files failed kind list _ work = ⊥
+
+-- `class` makes this of names that the words give
+abbrev pub ReportsNames : Option (List ℕ → Option (List ℕ)) → Type 0 → List (List ℕ) → Sought → Work → Type 0
+ReportsNames files failed names sought (Ok output) = IsWholeReport files failed sought names output
+ReportsNames files failed names sought (Err refusal) = ⊥
+
+-- and this, of the text of a lesson where one is given
+abbrev pub ReportsNamed : Option (List ℕ → Option (List ℕ)) → Type 0 → FileKind → List (List ℕ) → List (List ℕ) → Work
+    → Type 0
+ReportsNamed files failed kind names [] work = ReportsNames files failed names alone work
+ReportsNamed files failed kind names (given ∷ []) work =
+    OnLesson (λ lesson. ReportsNames files failed names (sought_by kind lesson)) given work
+ReportsNamed files failed kind names _ work = ⊥

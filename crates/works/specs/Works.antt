@@ -14,6 +14,7 @@ use Rattle.works.specs.declared.work.Unmade.{Unmade}
 use Rattle.works.specs.declared.work.Verdict.TheVariants.{Spent}
 use Rattle.works.specs.declared.work.Stop.{Stop}
 use Rattle.works.specs.declared.work.Stop.TheVariants.{Refused, Memory}
+use Rattle.command_words.specs.declared.command.FileKind.{FileKind}
 use Rattle.command_words.specs.declared.command.Job.{Job}
 use Rattle.command_words.specs.declared.command.Job.TheVariants.{Compose, Best, Mark, Weigh, Cantus, CantusCharges, Print, ToSmf, ToXml, MarkXml, Picture, MarkPicture, ComposeNth}
 use Rattle.cantus_prices.specs.declared.prices.PricedSheet.{PricedSheet}
@@ -25,7 +26,7 @@ use Rattle.works.specs.Certified.{Certifies}
 use Rattle.works.specs.Charged.{Weighs}
 use Rattle.works.specs.Checked.{AnswersWithin, Checks, IsUnreadable}
 use Rattle.works.specs.Classes.{IsClass, IsList, RefusesList}
-use Rattle.command_words.specs.Commands.{Task, on_exercise, on_mixed, certify, check, fromsmf, join_smf, drill, mark_answer, class_report, whole_class, find_canon, find_cantus, certify_cantus, check_cantus, explain}
+use Rattle.command_words.specs.Commands.{Task, on_exercise, on_mixed, certify, check, fromsmf, join_smf, drill, mark_answer, class_report, class_files, whole_class, whole_files, find_canon, find_cantus, certify_cantus, check_cantus, explain}
 use Rattle.works.specs.TaskFiles.{as_list, names_in}
 use Rattle.works.specs.Complaints.{name_text}
 use Rattle.works.specs.Composed.{Composes, ComposesSharply}
@@ -42,7 +43,7 @@ use Rattle.works.specs.Rendered.{MarksPicture, MarksXml, Pictures, Prints, Write
 use Rattle.works.specs.Searched.{IsNarrow}
 use Rattle.works.specs.Sheets.{OnSheet, prices_in_use, sheet_said}
 use Rattle.works.specs.Texts.{Work, OnText}
-use Rattle.works.specs.WholeClasses.{ReportsWhole}
+use Rattle.works.specs.WholeClasses.{ReportsNamed, ReportsWhole}
 use Rattle.works.specs.Told.{ComposesNth}
 
 -- a job makes this of an exercise, over the sheet in use, with its prices
@@ -134,6 +135,11 @@ abbrev pub ReportsClass : Files → List ℕ → Work → Type 0
 ReportsClass files list (Ok output) = IsClassOf files list output
 ReportsClass files list (Err refusal) = RefusesList list refusal
 
+-- and this of files with these bytes whose names the words give
+abbrev pub ReportsFilesOf : List (List ℕ) → List (List ℕ) → Work → Type 0
+ReportsFilesOf names texts (Ok output) = IsClass names texts output
+ReportsFilesOf names texts (Err refusal) = ⊥
+
 -- a command makes this of files with these bytes, in the order of reading
 abbrev pub Makes : Task → Files → List (List ℕ) → Work → Type 0
 Makes (on_exercise name sheet job) files (text ∷ sheets) work = MakesOfText job sheets text work
@@ -146,7 +152,9 @@ Makes (join_smf lesson name top_first) files (given ∷ file ∷ []) work = Join
 Makes (drill number by_sharper) files [] work = Drills number by_sharper work
 Makes (mark_answer name lesson) files (text ∷ given ∷ []) work = MarksAnswer given text work
 Makes (class_report list) files (text ∷ []) work = ReportsClass files text work
-Makes (whole_class list lesson) files (text ∷ lessons) work = ReportsWhole files (Unit {0}) text lessons work
+Makes (class_files names) files texts work = ReportsFilesOf names texts work
+Makes (whole_class list lesson kind) files (text ∷ lessons) work = ReportsWhole files (Unit {0}) kind text lessons work
+Makes (whole_files names lesson kind) files lessons work = ReportsNamed files (Unit {0}) kind names lessons work
 Makes (find_canon name sheet search) files (text ∷ sheets) work = MakesCanon search sheets text work
 Makes (find_cantus wanted sheet search) files sheets work = MakesCantus wanted search sheets work
 Makes (certify_cantus wanted sheet budget) files sheets work = MakesCantusCertificate wanted budget sheets work
@@ -182,19 +190,30 @@ Answers Made (Err Memory) = Unit {0}
 
 -- an output that `class` makes of a list and of the lesson where one is named, and of which a fact
 -- holds: it tells of a file that it can't be read only where a read failed, or the file is missing
-pub record TellsCauses (list : List ℕ) (lesson : Option (List ℕ)) (files : Files) (rose : Type 0)
+pub record TellsCauses (list : List ℕ) (lesson : Option (List ℕ)) (kind : FileKind) (files : Files) (rose : Type 0)
     (Holds : Output → Type 0) : Type 0 where
   pub text : List ℕ
   pub lessons : List (List ℕ)
   pub had : AllMayHave files (list ∷ as_list lesson) (text ∷ lessons)
   pub output : Output
-  pub made : ReportsWhole files rose text lessons (Ok output)
+  pub made : ReportsWhole files rose kind text lessons (Ok output)
+  pub holds : Holds output
+
+-- so does an output that it makes of names that the words give
+pub record TellsNamedCauses (names : List (List ℕ)) (lesson : Option (List ℕ)) (kind : FileKind) (files : Files)
+    (rose : Type 0) (Holds : Output → Type 0) : Type 0 where
+  pub lessons : List (List ℕ)
+  pub had : AllMayHave files (as_list lesson) lessons
+  pub output : Output
+  pub made : ReportsNamed files rose kind names lessons (Ok output)
   pub holds : Holds output
 
 -- an answer of a command is so, where it is one to such a `class`
 abbrev pub IsOfCauses : {A E : Type 0} → Task → Files → Type 0 → (A → Output → Type 0) → Result A E → Type 0
-IsOfCauses (whole_class list lesson) files rose Holds (Ok answer) =
-    TellsCauses list lesson files rose (Holds answer)
+IsOfCauses (whole_class list lesson kind) files rose Holds (Ok answer) =
+    TellsCauses list lesson kind files rose (Holds answer)
+IsOfCauses (whole_files names lesson kind) files rose Holds (Ok answer) =
+    TellsNamedCauses names lesson kind files rose (Holds answer)
 IsOfCauses _ _ _ _ _ = Unit {0}
 
 -- the work of a command on its files, of which a fact holds
@@ -243,10 +262,10 @@ Reads limit files rose name (Err complaint.OutOfMemory) = Unit {0}
 Reads limit files rose name (Err _) = ⊥
 
 -- the same where a file may be without being read: then too with its cause
-abbrev pub ReadsOrNot : Files → Type 0 → List ℕ → Result (Option Content) MemoryFault → Type 0
-ReadsOrNot files failed name (Ok None) = failed ⊎ IsMissing files name
-ReadsOrNot files failed name (Ok (Some text)) = IsRead 65536 files name text
-ReadsOrNot files failed name (Err memory) = Unit {0}
+abbrev pub ReadsOrNot : ℕ → Files → Type 0 → List ℕ → Result (Option Content) MemoryFault → Type 0
+ReadsOrNot limit files failed name (Ok None) = failed ⊎ IsMissing files name
+ReadsOrNot limit files failed name (Ok (Some text)) = IsRead limit files name text
+ReadsOrNot limit files failed name (Err memory) = Unit {0}
 
 -- the same of the file of a sheet, where one is named
 abbrev pub ReadsSheetFile : Files → Type 0 → Option (List ℕ) → Result (Option Content) Complaint → Type 0

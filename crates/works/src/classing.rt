@@ -4,7 +4,8 @@ ghost use Rattle.std.specs.Prelude.{◌≡◌, ℕ, ◌+◌, ◌*◌, ◌<◌, �
 ghost use Rattle.fux_port.specs.Counts.{Rose};
 ghost use Rattle.works.specs.Blame.{Blames, BlamesNoFile, BlamesPlace, CouldRead, IsUnserved, IsUnservedIn, ServesNames, ServesTask};
 ghost use Rattle.works.specs.Classes.{IsClass, class_verdict};
-ghost use Rattle.command_words.specs.Commands.{class_report};
+ghost use Rattle.command_words.specs.Commands.{class_report, texts};
+ghost use Rattle.command_words.specs.Commands as tasks;
 ghost use Rattle.works.specs.Endings.{IsMade};
 ghost use Rattle.works.specs.Listed.{IsUnreadAt, ReadsTexts, ReportsFiles};
 ghost use Rattle.works.specs.Little.{ReadsLittle};
@@ -125,6 +126,35 @@ fn report_files<F: Shelf, R: Threads + Sync>(
             Err(Memory) => Err(Complaint::OutOfMemory),
         },
         Err(Unread::At { place }) => Err(unreadable(names, place)),
+        Err(Unread::Memory) => Err(Complaint::OutOfMemory),
+    }
+}
+
+/// The report of the exercises in the files of names that the words give.
+pub fn class_files<'a, F: Shelf, R: Threads + Sync>(
+    rt: &R,
+    alloc: Global,
+    names: &'a [String],
+    shelf: &mut F,
+) -> Result<Output, Complaint<'a>>
+    ensures made { IsMade (tasks.class_files (texts names.entry.now)) (F.files shelf.old)
+        (Rose (F.faults shelf.old) (F.faults shelf.new)) result }
+    ensures served { ServesTask (F.serves shelf.old) (F.files shelf.old)
+        (tasks.class_files (texts names.entry.now)) → IfErr result BlamesNoFile }
+    ensures blamed { IfErr result (Blames (IsUnserved (F.serves shelf.old) (F.files shelf.old)
+        (tasks.class_files (texts names.entry.now)))) }
+    ensures little { ReadsLittle (tasks.class_files (texts names.entry.now))
+        (F.files shelf.old) (F.given shelf.old) (F.given shelf.new) }
+    ensures files { F.files shelf.new ≡ F.files shelf.old }
+{
+    match read_texts(alloc, shelf, names) {
+        Ok(texts) => match report_output(rt, alloc, names, &texts) {
+            Ok(output) => Ok(output),
+            Err(Memory) => Err(Complaint::OutOfMemory),
+        },
+        Err(Unread::At { place }) => Err(Complaint::Unreadable {
+            name: FileName::Given(names[place].as_str()),
+        }),
         Err(Unread::Memory) => Err(Complaint::OutOfMemory),
     }
 }

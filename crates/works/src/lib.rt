@@ -34,7 +34,7 @@ mod work;
 pub use cantus_certifying::perform_cantus;
 pub use certifying::perform_certify;
 pub use complaint::{Complaint, FileName};
-pub use gathering::whole_class;
+pub use gathering::{whole_class, whole_files};
 pub use law::{best_is_composed, certified_is_accepted, written_is_read};
 pub use making::make;
 pub use refusal::Refusal;

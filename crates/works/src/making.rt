@@ -17,7 +17,7 @@ use crate::answering::answer;
 use crate::cantus_checking::checked_cantus;
 use crate::charging::weigh;
 use crate::checking::check;
-use crate::classing::class;
+use crate::classing::{class, class_files};
 use crate::complaint::{Complaint, FileName};
 use crate::composing::{best, compose};
 use crate::content::read_content;
@@ -108,6 +108,7 @@ pub fn make<'a, F: Shelf, R: Threads + Sync>(
         }
         Making::MarkAnswer { name, lesson } => answer(alloc, name, lesson, shelf),
         Making::Class { list } => class(rt, alloc, list, shelf),
+        Making::ClassFiles { names } => class_files(rt, alloc, names, shelf),
         Making::Canon {
             name,
             sheet,

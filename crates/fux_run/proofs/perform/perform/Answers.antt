@@ -15,3 +15,9 @@ returns-in-Certify-clause-near g c = rw c.in-Certify.is (each_end c.perform_cert
 
 pub returns-in-CertifyCantus-clause-near : goal.returns-in-CertifyCantus-clause-near
 returns-in-CertifyCantus-clause-near g c = rw c.in-CertifyCantus.is (each_end c.perform_cantus.result)
+
+pub returns-in-WholeFiles-clause-near : goal.returns-in-WholeFiles-clause-near
+returns-in-WholeFiles-clause-near g c = rw c.in-WholeFiles.is (each_end c.perform_files.result)
+
+pub returns-in-WholeFiles-clause-causes : goal.returns-in-WholeFiles-clause-causes
+returns-in-WholeFiles-clause-causes g c = rw c.in-WholeFiles.is c.perform_files.ensures.causes

@@ -1,9 +1,9 @@
 use Rattle.fux_port.specs.Counts.{Rose}
 use Rattle.fux_port.specs.Promises.{Fails}
-use Rattle.command_words.specs.Commands.{asked, texts, whole_class}
+use Rattle.command_words.specs.Commands.{asked, texts, whole_class, whole_files}
 use Rattle.fux_run.specs.Sinks.{Gets}
 use Rattle.fux_run.proofs.BlameStatuses.{reads_status}
-use Rattle.fux_run.proofs.RunLemmas.{RanAs, of_task, ran_causes, ran_near, ran_complete, ran_missing, ran_missing_within, ran_unreadable, ran_works, run_form, run_known, run_memory_line, run_silent, run_unwritable, run_unwritten, run_usage, run_usage_line}
+use Rattle.fux_run.proofs.RunLemmas.{RanAs, of_task, ran_causes, ran_complete, ran_missing, ran_missing_within, ran_named_causes, ran_near, ran_unreadable, ran_works, run_form, run_known, run_memory_line, run_silent, run_unwritable, run_unwritten, run_usage, run_usage_line}
 use Rattle.fux_run.proofs.SinkLemmas.{gets_none}
 use Rattle.fux_run.proofs.top_call.run.Goals as goal
 use Rattle.fux_run.proofs.top_call.run.Goals.{Joined-ended}
@@ -81,10 +81,15 @@ returns-clause-taken g c = λ all five.
     let cut = (run_unwritable _ _ _ _ _ _ _ _ _ (ran g c) five).0 in cut.1.1 (all cut.0)
 
 pub returns-clause-causes : goal.returns-clause-causes
-returns-clause-causes g c = λ list lesson is done. ran_causes list lesson _ _ _ c.outcome-ended.result c.code.result
-    (rw c.conclude.ensures.status at c.code.ensures) done
-    (c.outcome-ended.ensures.causes (whole_class list lesson) is)
+returns-clause-causes g c = λ list lesson kind is done. ran_causes list lesson kind _ _ _ c.outcome-ended.result
+    c.code.result (rw c.conclude.ensures.status at c.code.ensures) done
+    (c.outcome-ended.ensures.causes (whole_class list lesson kind) is)
 
 pub returns-clause-near : goal.returns-clause-near
 returns-clause-near g c = λ task is done. ran_near c.outcome-ended.result c.code.result
     (rw c.conclude.ensures.status at c.code.ensures) done (c.outcome-ended.ensures.near task is)
+
+pub returns-clause-named_causes : goal.returns-clause-named_causes
+returns-clause-named_causes g c = λ names lesson kind is done. ran_named_causes names lesson kind _ _ _
+    c.outcome-ended.result c.code.result (rw c.conclude.ensures.status at c.code.ensures) done
+    (c.outcome-ended.ensures.causes (whole_files names lesson kind) is)

@@ -16,7 +16,7 @@ pub returns-in_err-given-clause-made : goal.returns-in_err-given-clause-made
 returns-in_err-given-clause-made g c =
     let files = g.F.Shelf.files in
     let faults = g.F.Shelf.faults in
-    let task = whole_class c.args.list.now (sheet_named c.args.lesson) in
+    let task = whole_class c.args.list.now (sheet_named c.args.lesson) c.args.kind in
     let told = err_from_is_err_and c.from_residual-in_err-given.result c.from_residual-in_err-given.ensures.1 in
     rw (told.1, told.2) (sheet_unread c.args.list.now (sheet_named c.args.lesson)
     (files c.args.shelf.now) (files c.read_content.new.shelf)
@@ -34,13 +34,13 @@ returns-clause-made g c =
     let lesson = sheet_named c.args.lesson in
     let text = c.in_ok-text.text in
     let given = c.in_ok-given.given in
-    made_said (whole_class list lesson) (g.F.Shelf.files c.args.shelf.now) _
+    made_said (whole_class list lesson c.args.kind) (g.F.Shelf.files c.args.shelf.now) _
     (text ∷ as_list given) c.of_texts.result c.said.result (
       c.in_ok-text.ensures.reads,
       read_same 65536 (g.F.Shelf.files c.args.shelf.now) _ (as_list lesson) (as_list given)
           c.in_ok-text.ensures.files c.in_ok-given.ensures.reads,
     )
-    (of_whole (g.F.Shelf.files c.args.shelf.now) _ list lesson text given c.of_texts.result
+    (of_whole (g.F.Shelf.files c.args.shelf.now) _ list lesson c.args.kind text given c.of_texts.result
     (rw (c.in_ok-given.ensures.files, c.in_ok-text.ensures.files) at c.of_texts.ensures.reported))
     c.said.ensures.says
 
@@ -77,7 +77,7 @@ returns-clause-causes g c =
     let text = c.in_ok-text.text in
     let given = c.in_ok-given.given in
     causes_told (files c.args.shelf.now) (Rose (faults c.read_weights.new.shelf) (faults c.of_texts.new.shelf))
-    c.args.list.now lesson text given (Rose (faults c.args.shelf.now) (faults c.of_texts.new.shelf)) c.of_texts.result
+    c.args.list.now lesson c.args.kind text given (Rose (faults c.args.shelf.now) (faults c.of_texts.new.shelf)) c.of_texts.result
     c.said.result
     (λ later. rose_later _ _ _ c.in_ok-text.ensures.faults (rose_later _ _ _ c.in_ok-given.ensures.faults later)) (
       c.in_ok-text.ensures.reads,
@@ -91,7 +91,7 @@ pub returns-in_err-text-clause-blamed : goal.returns-in_err-text-clause-blamed
 returns-in_err-text-clause-blamed g c =
     let told = err_from_is_err_and c.from_residual.result c.from_residual.ensures.1 in
     rw (told.1, told.2) (text_blames (IsUnserved (g.F.Shelf.serves c.args.shelf.now) (g.F.Shelf.files c.args.shelf.now)
-    (whole_class c.args.list.now (sheet_named c.args.lesson))) 65536 _ _
+    (whole_class c.args.list.now (sheet_named c.args.lesson) c.args.kind)) 65536 _ _
     (g.F.Shelf.serves c.args.shelf.now) c.args.list.now _
     c.in_err-text.ensures.reads c.in_err-text.ensures.served (λ denied. inl ((0, omega arith, refl), denied)))
 
@@ -99,7 +99,7 @@ pub returns-in_err-given-clause-blamed : goal.returns-in_err-given-clause-blamed
 returns-in_err-given-clause-blamed g c =
     let told = err_from_is_err_and c.from_residual-in_err-given.result c.from_residual-in_err-given.ensures.1 in
     rw (told.1, told.2) (sheet_blames (IsUnserved (g.F.Shelf.serves c.args.shelf.now) (g.F.Shelf.files c.args.shelf.now)
-    (whole_class c.args.list.now (sheet_named c.args.lesson))) _ _
+    (whole_class c.args.list.now (sheet_named c.args.lesson) c.args.kind)) _ _
     (g.F.Shelf.serves c.args.shelf.now) (g.F.Shelf.serves c.read_content.new.shelf) (sheet_named c.args.lesson) _
     c.in_err-given.ensures.reads c.in_ok-text.ensures.serving c.in_err-given.ensures.served
     (λ name one. inl (served_later (g.F.Shelf.serves c.args.shelf.now) 65536 c.args.list.now (as_list (sheet_named c.args.lesson)) name one)))
@@ -107,7 +107,7 @@ returns-in_err-given-clause-blamed g c =
 pub returns-clause-blamed : goal.returns-clause-blamed
 returns-clause-blamed g c =
     result_blames_none (IsUnserved (g.F.Shelf.serves c.args.shelf.now) (g.F.Shelf.files c.args.shelf.now)
-    (whole_class c.args.list.now (sheet_named c.args.lesson))) c.said.result c.said.ensures.reads
+    (whole_class c.args.list.now (sheet_named c.args.lesson) c.args.kind)) c.said.result c.said.ensures.reads
 
 pub returns-in_err-text-clause-little : goal.returns-in_err-text-clause-little
 returns-in_err-text-clause-little g c = inl (omega (arith, c.read_content.ensures.little))
@@ -121,7 +121,7 @@ returns-clause-little g c =
     let files = g.F.Shelf.files in
     let given = g.F.Shelf.given in
     let lesson = sheet_named c.args.lesson in
-    whole_little (files c.args.shelf.now) c.args.list.now lesson c.in_ok-text.text c.in_ok-given.given
+    whole_little (files c.args.shelf.now) c.args.list.now lesson c.args.kind c.in_ok-text.text c.in_ok-given.given
     (given c.args.shelf.now) (given c.read_content.new.shelf) (given c.read_weights.new.shelf)
     (given c.of_texts.new.shelf) (
       c.in_ok-text.ensures.reads,

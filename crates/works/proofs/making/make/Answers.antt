@@ -178,6 +178,9 @@ returns-in_err-file-in-FromSmf-clause-served g c =
 pub returns-in-Class-clause-served : goal.returns-in-Class-clause-served
 returns-in-Class-clause-served g c = rw c.in-Class.is c.class.ensures.served
 
+pub returns-in-ClassFiles-clause-served : goal.returns-in-ClassFiles-clause-served
+returns-in-ClassFiles-clause-served g c = rw c.in-ClassFiles.is c.class_files.ensures.served
+
 pub returns-in_err-text-in-OnExercise-clause-blamed : goal.returns-in_err-text-in-OnExercise-clause-blamed
 returns-in_err-text-in-OnExercise-clause-blamed g c =
     let told = err_from_is_err_and c.from_residual.result c.from_residual.ensures.1 in
@@ -270,8 +273,14 @@ returns-in-Class-clause-blamed g c = rw c.in-Class.is c.class.ensures.blamed
 pub returns-in-Class-clause-little : goal.returns-in-Class-clause-little
 returns-in-Class-clause-little g c = rw c.in-Class.is c.class.ensures.little
 
+pub returns-in-ClassFiles-clause-blamed : goal.returns-in-ClassFiles-clause-blamed
+returns-in-ClassFiles-clause-blamed g c = rw c.in-ClassFiles.is c.class_files.ensures.blamed
+
 pub returns-in-Canon-clause-blamed : goal.returns-in-Canon-clause-blamed
 returns-in-Canon-clause-blamed g c = rw c.in-Canon.is c.canon.ensures.blamed
+
+pub returns-in-ClassFiles-clause-little : goal.returns-in-ClassFiles-clause-little
+returns-in-ClassFiles-clause-little g c = rw c.in-ClassFiles.is c.class_files.ensures.little
 
 pub returns-in-Canon-clause-little : goal.returns-in-Canon-clause-little
 returns-in-Canon-clause-little g c = rw c.in-Canon.is c.canon.ensures.little
@@ -410,6 +419,9 @@ returns-in-MarkAnswer-clause-near g c = rw c.in-MarkAnswer.is (each_output c.ans
 
 pub returns-in-Class-clause-near : goal.returns-in-Class-clause-near
 returns-in-Class-clause-near g c = rw c.in-Class.is (each_output c.class.result)
+
+pub returns-in-ClassFiles-clause-near : goal.returns-in-ClassFiles-clause-near
+returns-in-ClassFiles-clause-near g c = rw c.in-ClassFiles.is (each_output c.class_files.result)
 
 pub returns-in-Canon-clause-near : goal.returns-in-Canon-clause-near
 returns-in-Canon-clause-near g c = rw c.in-Canon.is (each_output c.canon.result)
