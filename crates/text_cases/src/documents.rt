@@ -1,5 +1,6 @@
 //! Documents, against those that another program wrote.
 
+use crate::agree::agree;
 use crate::documents_table::{
     BARE, BARE_SHEET, FLORID, FLORID_MARKED, FLORID_SHEET, THREE, THREE_SHEET,
 };
@@ -37,7 +38,7 @@ fn sheets_are_written(rt: HostRuntime) -> Result<(), Fail> {
         (THREE, THREE_SHEET),
     ] {
         let written = document(rt.alloc(), text, None)?;
-        assert_eq!(rt; written.as_str(), sheet);
+        agree(&rt, text, written.as_str(), sheet);
     }
     Ok(())
 }
@@ -46,6 +47,6 @@ fn sheets_are_written(rt: HostRuntime) -> Result<(), Fail> {
 fn marked_notes_are_red(rt: HostRuntime) -> Result<(), Fail> {
     let marks = [mark(0, 20), mark(6, 16)];
     let written = document(rt.alloc(), FLORID, Some(&marks))?;
-    assert_eq!(rt; written.as_str(), FLORID_MARKED);
+    agree(&rt, "marked", written.as_str(), FLORID_MARKED);
     Ok(())
 }

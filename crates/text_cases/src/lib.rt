@@ -1,12 +1,11 @@
-//! Note texts with what reading answers of each, other texts and MIDI files at the edges of what is
-//! read, and those that are written. They stand above the crates that they try, so that what carries
-//! the proofs is proved once.
+//! What no row of `stored_runs` can say of the texts and the files that are read and written:
+//! claims and entries in pieces of every size, heads of certificates, the events of a MIDI file and
+//! the longest one, documents with marks of any kind, and texts that are written again. They stand
+//! above the crates that they try, so that what carries the proofs is proved once.
 #![tactic(auto)]
 
 #[cfg(test)]
 mod agree;
-#[cfg(test)]
-mod cases;
 #[cfg(test)]
 mod claims;
 #[cfg(test)]
@@ -20,14 +19,8 @@ mod heads;
 #[cfg(test)]
 mod midi_files;
 #[cfg(test)]
-mod midi_kinds;
-#[cfg(test)]
-mod prints;
-#[cfg(test)]
 mod readers;
 #[cfg(test)]
 mod sheets;
-#[cfg(test)]
-mod tests;
 #[cfg(test)]
 mod writing;
