@@ -1,6 +1,8 @@
 //! Lines of one note a column, worked out by hand.
 
+use crate::agree::agree;
 use crate::found::add_found;
+use fux_grid::Score;
 use short_scores::{exercise_of, score_of};
 use std::alloc::Global;
 use std::fmt::Write;
@@ -39,29 +41,23 @@ Q9: D4 F4, D4 B4
 Q10: A4 D4
 Q13: D4 G4, D4 G4 F4, D4 F4 G4, G4 D4 E4, D4 G4 F4 E4";
 
-/// Compares what stands at the last note of a line with what should, where one voice sings it, or
-/// for 4 all do: nothing for the cantus, and of S5 nothing but for the voice of the second species.
-fn compare(
-    rt: &impl Abort,
-    alloc: Global,
-    asked: &str,
-    line: &str,
-    v: u8,
-    stands: bool,
-) -> Result<(), Fail> {
-    let ex = exercise_of(alloc, EXERCISE, 4)?;
-    let mut lines = [if v == 4 { line } else { "r" }; 4];
-    if v < 4 {
-        lines[v as usize] = line;
-    }
-    let score = score_of(alloc, &lines)?;
-    assert!(rt; score.len() > 0 && score.len() <= 8 * usize::from(ex.bars));
-    assert!(rt; score.voices() == ex.voices);
-    let last = score.len() - 1;
-    let mut found = String::new(alloc);
-    add_found(&mut found, asked, &ex, &score, last)?;
+/// The score of a line that one voice sings, or for 4 all do.
+fn sung(alloc: Global, line: &str, v: u8) -> Result<Score, Fail> {
+    let lines = match v {
+        0 => [line, "r", "r", "r"],
+        1 => ["r", line, "r", "r"],
+        2 => ["r", "r", line, "r"],
+        3 => ["r", "r", "r", line],
+        _ => [line; 4],
+    };
+    score_of(alloc, &lines)
+}
+
+/// What should stand at the last note, where it breaks what is asked: nothing for the cantus, and
+/// of S5 nothing but for the voice of the second species.
+fn wanted_of(alloc: Global, asked: &str, last: usize, v: u8) -> Result<String, Fail> {
     let mut wanted = String::new(alloc);
-    if stands && v > 0 && (v == 1 || asked != "S5") {
+    if v > 0 && (v == 1 || asked != "S5") {
         let value = match (asked.starts_with('S'), v) {
             (true, 1) => 2,
             (true, 2) => 4,
@@ -71,7 +67,32 @@ fn compare(
         };
         write!(wanted, "\n{asked} {last} {value}")?;
     }
-    assert_eq!(rt; found, wanted, "{line} in voice {v}");
+    Ok(wanted)
+}
+
+/// Compares what stands at the last note of a line with what should, where one voice sings it, or
+/// for 4 all do.
+fn compare(
+    rt: &impl Abort,
+    alloc: Global,
+    asked: &str,
+    line: &str,
+    v: u8,
+    stands: bool,
+) -> Result<(), Fail> {
+    let ex = exercise_of(alloc, EXERCISE, 4)?;
+    let score = sung(alloc, line, v)?;
+    assert!(rt; score.len() > 0 && score.len() <= 8 * usize::from(ex.bars));
+    assert!(rt; score.voices() == ex.voices);
+    let last = score.len() - 1;
+    let mut found = String::new(alloc);
+    add_found(&mut found, asked, &ex, &score, last)?;
+    if stands {
+        let wanted = wanted_of(alloc, asked, last, v)?;
+        agree(rt, line, found.as_str(), wanted.as_str());
+    } else {
+        agree(rt, line, found.as_str(), "");
+    }
     Ok(())
 }
 

@@ -1,11 +1,13 @@
 //! Settings and cantus firmi whose marks were worked out by hand from the rules.
 
+use crate::agree::agree;
 use crate::parts::parts;
 use crate::tables::{CANTUS_FIRMI, SETTINGS};
 use score_marker::{Mark, cantus_marks, marks};
 use short_scores::{case_of, exercise_of};
 use std::alloc::Global;
 use std::fmt::Write;
+use std::process::Abort;
 use std::test::Fail;
 
 /// A line for each mark, with a line's end before it.
@@ -18,25 +20,35 @@ fn shown(alloc: Global, marks: &[Mark]) -> Result<String, Fail> {
     Ok(text)
 }
 
+/// The marks of a setting.
+fn setting_marks(rt: &impl Abort, alloc: Global, text: &str) -> Result<String, Fail> {
+    let case = case_of(alloc, text)?;
+    assert!(rt; case.score.len() == 8 * usize::from(case.exercise.bars));
+    shown(alloc, &marks(alloc, &case.exercise, &case.score)?)
+}
+
 #[test]
 fn settings_have_their_marks(rt: HostRuntime) -> Result<(), Fail> {
     for text in SETTINGS.split("\n\n") {
         let (text, wanted) = parts(text)?;
-        let case = case_of(rt.alloc(), text)?;
-        assert!(rt; case.score.len() == 8 * usize::from(case.exercise.bars));
-        let found = marks(rt.alloc(), &case.exercise, &case.score)?;
-        assert_eq!(rt; shown(rt.alloc(), &found)?.as_str(), wanted, "{text}");
+        let found = setting_marks(&rt, rt.alloc(), text)?;
+        agree(&rt, text, found.as_str(), wanted);
     }
     Ok(())
+}
+
+/// The marks of a cantus firmus.
+fn marks_of_cantus(alloc: Global, text: &str) -> Result<String, Fail> {
+    let exercise = exercise_of(alloc, text, 2)?;
+    shown(alloc, &cantus_marks(alloc, &exercise)?)
 }
 
 #[test]
 fn cantus_firmi_have_their_marks(rt: HostRuntime) -> Result<(), Fail> {
     for text in CANTUS_FIRMI.split("\n\n") {
         let (text, wanted) = parts(text)?;
-        let exercise = exercise_of(rt.alloc(), text, 2)?;
-        let found = cantus_marks(rt.alloc(), &exercise)?;
-        assert_eq!(rt; shown(rt.alloc(), &found)?.as_str(), wanted, "{text}");
+        let found = marks_of_cantus(rt.alloc(), text)?;
+        agree(&rt, text, found.as_str(), wanted);
     }
     Ok(())
 }

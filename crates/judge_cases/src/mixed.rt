@@ -1,12 +1,14 @@
 //! Settings of mixed exercises, judged column by column beside the plain reading, and their breaks
 //! of S27 and S28. S15 is never broken in them.
 
+ghost use Rattle.std.specs.Prelude.{◌≡◌, ◌≤◌, length};
+ghost use Rattle.fux_grid.specs.Exercises.{IsValid, columns_in};
+
+use crate::agree::agree;
 use crate::mixed_tables::{JUDGED, WORKED};
 use crate::parts::parts;
-use crate::plain::walk;
-use fux_grid::mixed_as;
-use fux_judge::penalty;
-use penalty_sheet::default_sheet;
+use crate::plain::judge;
+use fux_grid::{Exercise, Score, mixed_as};
 use score_marker::{Mark, marks};
 use short_scores::case_of;
 use std::alloc::Global;
@@ -15,7 +17,7 @@ use std::process::Abort;
 use std::test::Fail;
 
 /// The species of the line that begins with `mixed`, by voice, and 1 for the voices beyond its end.
-fn species_of_line(text: &str) -> Result<[u8; 4], Fail> {
+pub fn species_of_line(text: &str) -> Result<[u8; 4], Fail> {
     let mut species = [1u8; 4];
     for line in text.lines() {
         if let Some(line) = line.strip_prefix("mixed ") {
@@ -40,10 +42,28 @@ fn shown(alloc: Global, marks: &[Mark]) -> Result<String, Fail> {
     Ok(text)
 }
 
-/// Each setting of a table is judged as the whole score, and has its marks. Where it breaks S3 no
-/// penalty is asked.
+/// Compares the marks of a score that is judged as the whole with those that are wanted.
+fn compare(
+    rt: &impl Abort,
+    alloc: Global,
+    ex: &Exercise,
+    score: &Score,
+    text: &str,
+    wanted: &str,
+) -> Result<(), Fail>
+    requires valid { IsValid ex.now }
+    requires voices { score.now.voices ≡ ex.now.voices }
+    requires few { length score.now.columns ≤ columns_in ex.now }
+{
+    judge(rt, alloc, ex, score, text)?;
+    assert!(rt; score.len() == 8 * usize::from(ex.bars));
+    let found = marks(alloc, ex, score)?;
+    agree(rt, text, shown(alloc, &found)?.as_str(), wanted);
+    Ok(())
+}
+
+/// Each setting of a table is judged as the whole score, and has its marks.
 fn judge_all(rt: &impl Abort, alloc: Global, table: &str) -> Result<(), Fail> {
-    let sheet = default_sheet();
     for text in table.split("\n\n") {
         let (text, wanted) = parts(text)?;
         let case = case_of(alloc, text)?;
@@ -51,16 +71,7 @@ fn judge_all(rt: &impl Abort, alloc: Global, table: &str) -> Result<(), Fail> {
         if !exercise.is_valid() {
             return Err("no valid species".into());
         }
-        if let Some((paid, lines)) = walk(rt, alloc, &exercise, &sheet, &case.score)? {
-            assert_eq!(rt;
-                penalty(&exercise, &sheet, &case.score),
-                Some(paid.saturating_add(lines)),
-                "{text}"
-            );
-        }
-        assert!(rt; case.score.len() == 8 * usize::from(exercise.bars));
-        let found = marks(alloc, &exercise, &case.score)?;
-        assert_eq!(rt; shown(alloc, &found)?.as_str(), wanted, "{text}");
+        compare(rt, alloc, &exercise, &case.score, text, wanted)?;
     }
     Ok(())
 }

@@ -10,8 +10,10 @@
 //! is the lowest one where a bar begins with a tie, and S3 is tried in the voice of the species: no
 //! menu breaks it elsewhere.
 
-ghost use Rattle.fux_grid.specs.Exercises.{IsValid};
+ghost use Rattle.std.specs.Prelude.{◌≡◌, ◌≤◌, length};
+ghost use Rattle.fux_grid.specs.Exercises.{IsValid, columns_in};
 
+use crate::agree::holds;
 use crate::parts::parts;
 use crate::{four_voices, tables, three_voices, two_voices};
 use fux_grid::{Exercise, Score};
@@ -46,14 +48,12 @@ fn compare(
     assert!(rt; longer.voices() == ex.voices && longer.len() <= columns);
     assert!(rt; longer.len() == prefix.len() + 1);
     let broken = newly_broken(ex, prefix, longer);
-    let paid = newly_paid(ex, sheet, prefix, longer);
     if orderly {
-        assert_eq!(rt; verdict.paid, paid, "column {}", prefix.len());
+        assert!(rt; verdict.paid == newly_paid(ex, sheet, prefix, longer));
     }
     for rule in 0..32u8 {
         if orderly || !LATE_RULES.contains(&rule) {
-            let (found, wanted) = (verdict.broken.has(rule), broken.has(rule));
-            assert_eq!(rt; found, wanted, "S{rule} at {}", prefix.len());
+            assert!(rt; verdict.broken.has(rule) == broken.has(rule));
         }
     }
     broken
@@ -72,18 +72,8 @@ fn compare_sums(
     requires valid { IsValid ex.now }
 {
     assert!(rt; score.voices() == ex.voices && score.len() <= 8 * usize::from(ex.bars));
-    assert_eq!(rt;
-        settled_breaks(ex, score),
-        broken,
-        "{} columns",
-        score.len()
-    );
-    assert_eq!(rt;
-        settled_charges(ex, sheet, score),
-        paid,
-        "{} columns",
-        score.len()
-    );
+    assert!(rt; settled_breaks(ex, score) == broken);
+    assert!(rt; settled_charges(ex, sheet, score) == paid);
 }
 
 /// Judges a score column by column, each as the plain reading of the scores without it and with it
@@ -127,23 +117,43 @@ pub fn walk(
     Ok(Some((sum, least)))
 }
 
-/// Each setting of a table is judged as the whole score. Where it breaks S3 no penalty is asked.
-fn judge_all(rt: &impl Abort, alloc: Global, table: &str) -> Result<(), Fail> {
+/// Judges a score as the whole, and answers what is paid of it. Where it breaks S3 no penalty is
+/// asked, and nothing is answered.
+pub fn judge(
+    rt: &impl Abort,
+    alloc: Global,
+    ex: &Exercise,
+    score: &Score,
+    text: &str,
+) -> Result<Option<u64>, Fail>
+    requires valid { IsValid ex.now }
+    requires voices { score.now.voices ≡ ex.now.voices }
+    requires few { length score.now.columns ≤ columns_in ex.now }
+{
     let sheet = default_sheet();
+    let Some((paid, lines)) = walk(rt, alloc, ex, &sheet, score)? else {
+        return Ok(None);
+    };
+    let sum = paid.saturating_add(lines);
+    holds(rt, text, penalty(ex, &sheet, score) == Some(sum));
+    Ok(Some(paid))
+}
+
+/// Whether so much is paid, where both are told.
+fn is_paid(paid: Option<u64>, wanted: &str) -> Result<bool, Fail> {
+    match paid {
+        Some(paid) if !wanted.is_empty() => Ok(wanted.trim().parse::<u64>()? == paid),
+        _ => Ok(true),
+    }
+}
+
+/// Each setting of a table is judged as the whole score, and that is paid of it which is wanted.
+fn judge_all(rt: &impl Abort, alloc: Global, table: &str) -> Result<(), Fail> {
     for text in table.split("\n\n") {
         let (text, wanted) = parts(text)?;
         let case = case_of(alloc, text)?;
-        let paid = walk(rt, alloc, &case.exercise, &sheet, &case.score)?;
-        if let Some((paid, lines)) = paid {
-            assert_eq!(rt;
-                penalty(&case.exercise, &sheet, &case.score),
-                Some(paid.saturating_add(lines)),
-                "{text}"
-            );
-            if !wanted.is_empty() {
-                assert_eq!(rt; wanted.trim().parse::<u64>()?, paid, "{text}");
-            }
-        }
+        let paid = judge(rt, alloc, &case.exercise, &case.score, text)?;
+        holds(rt, text, is_paid(paid, wanted)?);
     }
     Ok(())
 }

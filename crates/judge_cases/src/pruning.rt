@@ -3,6 +3,7 @@
 ghost use Rattle.std.specs.Prelude.{◌≡◌, ◌<◌, ◌≤◌, length};
 ghost use Rattle.fux_grid.specs.Exercises.{IsValid, columns_in};
 
+use crate::agree::agree;
 use crate::parts::parts;
 use crate::tables::COLUMNS;
 use fux_grid::{Column, Exercise, Score};
@@ -28,7 +29,7 @@ fn after(rt: &impl Abort, ex: &Exercise, score: &Score, columns: usize) -> State
         if i % 8 > 0 {
             let broken = pruned_within(ex, &sheet, &state, column, 0, None);
             let costly = pruned_within(ex, &sheet, &state, column, 4, Some(0));
-            assert!(rt; broken.is_none() && costly.is_none(), "column {i}");
+            assert!(rt; broken.is_none() && costly.is_none());
         }
         state = step(ex, &sheet, &state, column).state;
     }
@@ -60,7 +61,7 @@ fn compare(
             let broken = pruned_within(ex, &sheet, &state, column, 0, None);
             let dead = is_always_dead(ex, last, column);
             let breaks = step(ex, &sheet, &state, column).breaks();
-            assert_eq!(rt; breaks, dead || broken.is_some());
+            assert!(rt; breaks == (dead || broken.is_some()));
             write!(found, "\nbroken within {broken:?}, always dead {dead}")?;
         }
         Some((_, limit)) => {
@@ -73,7 +74,7 @@ fn compare(
             }
         }
     }
-    assert_eq!(rt; found.as_str(), wanted);
+    agree(rt, wanted, found.as_str(), wanted);
     Ok(())
 }
 

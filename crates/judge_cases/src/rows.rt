@@ -1,36 +1,37 @@
 //! The tables, read by one loop.
 
+ghost use Rattle.std.specs.Prelude.{◌≡◌, ◌≤◌, length};
+ghost use Rattle.fux_grid.specs.Exercises.{IsValid, columns_in};
+
+use crate::agree::agree;
 use crate::found::add_found;
+use crate::mixed::species_of_line;
 use crate::{chords, mixed_rows, spans};
-use fux_grid::mixed_as;
+use fux_grid::{Exercise, Score, mixed_as};
 use short_scores::case_of;
 use std::alloc::Global;
 use std::process::Abort;
 use std::test::Fail;
+
+/// What stands of what is asked of a score.
+fn found_of(alloc: Global, asked: &str, ex: &Exercise, score: &Score) -> Result<String, Fail>
+    requires valid { IsValid ex.now }
+    requires voices { score.now.voices ≡ ex.now.voices }
+    requires few { length score.now.columns ≤ columns_in ex.now }
+{
+    let mut found = String::new(alloc);
+    add_found(&mut found, asked, ex, score, 0)?;
+    Ok(found)
+}
 
 /// Compares what stands in a case with what should.
 fn compare(rt: &impl Abort, alloc: Global, text: &str) -> Result<(), Fail> {
     let (asked, text) = text.split_once('\n').ok_or("nothing asked")?;
     let (text, wanted) = text.split_once('=').ok_or("nothing wanted")?;
     let case = case_of(alloc, text)?;
-    let mut found = String::new(alloc);
-    add_found(&mut found, asked, &case.exercise, &case.score, 0)?;
-    assert_eq!(rt; found.as_str(), wanted, "{asked}\n{text}");
+    let found = found_of(alloc, asked, &case.exercise, &case.score)?;
+    agree(rt, text, found.as_str(), wanted);
     Ok(())
-}
-
-/// The species of the line that begins with `mixed`, by voice, and 1 for the voices beyond its end.
-fn species_of(text: &str) -> Result<[u8; 4], Fail> {
-    let mut species = [1u8; 4];
-    for line in text.lines() {
-        if let Some(line) = line.strip_prefix("mixed ") {
-            for (place, word) in species.iter_mut().zip(line.split(' ')) {
-                *place = word.parse::<u8>()?;
-            }
-            return Ok(species);
-        }
-    }
-    Err("no species".into())
 }
 
 /// Compares what stands in a case in which each voice has a species of its own with what should.
@@ -38,13 +39,12 @@ fn compare_mixed(rt: &impl Abort, alloc: Global, text: &str) -> Result<(), Fail>
     let (asked, text) = text.split_once('\n').ok_or("nothing asked")?;
     let (text, wanted) = text.split_once('=').ok_or("nothing wanted")?;
     let case = case_of(alloc, text)?;
-    let exercise = mixed_as(&case.exercise, species_of(text)?);
+    let exercise = mixed_as(&case.exercise, species_of_line(text)?);
     if !exercise.is_valid() {
         return Err("no valid species".into());
     }
-    let mut found = String::new(alloc);
-    add_found(&mut found, asked, &exercise, &case.score, 0)?;
-    assert_eq!(rt; found.as_str(), wanted, "{asked}\n{text}");
+    let found = found_of(alloc, asked, &exercise, &case.score)?;
+    agree(rt, text, found.as_str(), wanted);
     Ok(())
 }
 

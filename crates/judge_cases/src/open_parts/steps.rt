@@ -2,6 +2,7 @@
 
 ghost use Rattle.std.specs.Prelude.{◌≡◌, ◌≤◌, ◌<◌, length};
 
+use crate::agree::agree;
 use crate::open_parts::told::Told;
 use crate::open_parts::{cadences, dissonances, parallels, runs, shapes, suspensions, turnings};
 use fux_grid::{Exercise, Score, mixed_as};
@@ -51,11 +52,11 @@ fn stand<P: Told>(
         let (text, wanted) = text.split_once('=').ok_or("nothing wanted")?;
         let case = case_of(alloc, text)?;
         let found = changes::<P>(alloc, &case.exercise, &case.score)?;
-        assert_eq!(rt; found.as_str(), wanted.trim_end(), "{text}");
+        agree(rt, text, found.as_str(), wanted.trim_end());
         if let Some(species) = mixed {
             let exercise = mixed_as(&case.exercise, [species; 4]);
             let found = changes::<P>(alloc, &exercise, &case.score)?;
-            assert_eq!(rt; found.as_str(), "", "mixed {text}");
+            agree(rt, text, found.as_str(), "");
         }
     }
     Ok(())

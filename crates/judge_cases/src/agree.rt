@@ -1,0 +1,14 @@
+//! What ends a test. An assertion costs more to prove than most of what it stands behind, and one
+//! with a message much more, so that these two stand once.
+
+use std::process::Abort;
+
+/// Ends the test where something else was found of a case than is wanted.
+pub fn agree(rt: &impl Abort, case: &str, found: &str, wanted: &str) {
+    assert!(rt; found == wanted, "{case}, not {found}");
+}
+
+/// Ends the test where what is asked of a case doesn't hold.
+pub fn holds(rt: &impl Abort, case: &str, is_held: bool) {
+    assert!(rt; is_held, "{case}");
+}
