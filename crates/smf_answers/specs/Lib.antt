@@ -4,4 +4,5 @@ pub mod Faults
 pub mod Joined
 pub mod Meters
 pub mod Orders
+pub mod ReadBack
 pub mod Reading

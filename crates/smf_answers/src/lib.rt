@@ -6,7 +6,9 @@ mod fault;
 mod joined;
 mod meters;
 mod orders;
+mod read_back;
 mod reading;
 
 pub use fault::JoinFault;
+pub use read_back::settings_join_back;
 pub use reading::join_smf;

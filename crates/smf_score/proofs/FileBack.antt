@@ -1,9 +1,10 @@
--- The file that is written of a score is one whose events play the score's notes (`file_back`).
+-- The file that is written of a score is one whose events play the score's notes (`file_back`), and
+-- whose other events are those of the tempo and of the meter (`tempo_meant`).
 use Rattle.std.proofs.Common.{◌≡◌, ℕ, zero, suc, ◌+◌, ◌-◌, ◌*◌, ◌/◌, ◌%◌, ◌<◌, ◌≤◌, ◌^◌, false, List, [], ◌∷◌, ◌++◌, length, map, Option, Some, None, Ok, refl, sym, arith, inl, inr, ne_eqb, append_assoc, add-one, subst}
 use Rattle.std.proofs.lemmas.Bool.{eq-eqb, le-ltb, lt-ltb}
 use Rattle.std.proofs.lemmas.Int.{ints}
 use Rattle.std.proofs.lemmas.List.{length-append, length-map}
-use Rattle.std.specs.Prelude.{ℤ, pos, negsuc, ◌≤ℤ◌, unsigned_abs}
+use Rattle.std.specs.Prelude.{ℤ, pos, negsuc, ◌≤ℤ◌, ◌==◌, Err, if◌then◌else◌, unsigned_abs}
 use Rattle.fux_pitch.specs.declared.pitch.Pitch.{Pitch}
 use Rattle.fux_pitch.specs.Pitch.{key_of}
 use Rattle.fux_grid.specs.declared.cell.Cell.{Cell}
@@ -14,7 +15,7 @@ use Rattle.fux_grid.specs.Columns.{line}
 use Rattle.fux_grid.specs.Grid.{Grid}
 use Rattle.smf_bytes.specs.declared.chunks.Header.{Header}
 use Rattle.smf_bytes.specs.Rows.{IsRow}
-use Rattle.smf_bytes.specs.Messages.{Event, Message, Off, On, Meta, ends_track, event_row, two_byte_message}
+use Rattle.smf_bytes.specs.Messages.{Event, Message, Off, On, Other, Meta, System, ends_track, event_row, two_byte_message}
 use Rattle.smf_bytes.specs.Events.{Answers, Left, begun, event_then, left_behind}
 use Rattle.smf_bytes.specs.Files.{AreOfTrack, AreOfTracks, IsFile, IsHeader, IsNext}
 use Rattle.smf_score.specs.declared.played.Layout.{Layout}
@@ -62,17 +63,36 @@ message_stands running status key velocity more low high first second = (
   ),
 )
 
+-- the time, the number and the bytes of a meta event that doesn't end its track
+abbrev pub Meant : Type 0
+Meant = ℕ × ℕ × List ℕ
+
+abbrev pub meant_by : ℕ → Message → List Meant
+meant_by tick (Off channel key) = []
+meant_by tick (On channel key velocity) = []
+meant_by tick (Other channel) = []
+meant_by tick (Meta number bytes) = if number == 0x2F then [] else (tick, number, bytes) ∷ []
+meant_by tick (System bytes) = []
+
+-- those of a file, in its order, up to its first fault
+abbrev pub meant_in : Answers → List Meant
+meant_in [] = []
+meant_in (Ok event ∷ answers) = meant_by event.tick event.message ++ meant_in answers
+meant_in (Err fault ∷ answers) = []
+
 -- what answers of which this is said do
-abbrev Does : (Answers → Type 0) → List Stroke → Type 0
-Does Are strokes = (answers : Answers) × Are answers × (strokes_in answers ≡ Ok strokes)
+abbrev Does : (Answers → Type 0) → List Stroke → List Meant → Type 0
+Does Are strokes meant =
+    (answers : Answers) × Are answers × (strokes_in answers ≡ Ok strokes) × (meant_in answers ≡ meant)
 
 -- an event that doesn't end the track, and what stands behind it
 event_does : (Behind : Answers → Type 0) (left : Left) (delta : ℕ) (event : Event) (rest : List ℕ) (strokes : List Stroke)
-    → IsNext left delta event rest → ends_track event.message ≡ false
-    → Does (AreOfTrack Behind (left_behind left delta event rest)) strokes
+    (meant : List Meant) → IsNext left delta event rest → ends_track event.message ≡ false
+    → Does (AreOfTrack Behind (left_behind left delta event rest)) strokes meant
     → Does (AreOfTrack Behind left) (stroke_of (event_then left delta event) ∷ strokes)
-event_does Behind left delta event rest strokes next on (answers, are, e) =
-    (Ok (event_then left delta event) ∷ answers, (delta, event, rest, next, refl, inr (on, are)), rw e refl)
+    (meant_by (left.tick + delta) event.message ++ meant)
+event_does Behind left delta event rest strokes meant next on (answers, are, e, m) =
+    (Ok (event_then left delta event) ∷ answers, (delta, event, rest, next, refl, inr (on, are)), rw e refl, rw m refl)
 
 -- what is left of the track of a voice
 abbrev left_of : ℕ → ℕ → ℕ → Option ℕ → List ℕ → Left
@@ -81,24 +101,28 @@ left_of number end tick running rest =
 
 -- a message of a key, so many slots later
 key_does : (Behind : Answers → Type 0) (number end before after : ℕ) (running : Option ℕ) (status key : ℕ)
-    (message : Message) (more : List ℕ) (strokes : List Stroke) → before ≤ after → after ≤ 1000 → 0x80 ≤ status
+    (message : Message) (more : List ℕ) (strokes : List Stroke) (meant : List Meant) → before ≤ after → after ≤ 1000 → 0x80 ≤ status
     → status < 0xB0 → key < 128 → two_byte_message status key 0x40 ≡ message → ends_track message ≡ false
-    → Does (AreOfTrack Behind (left_of number end (240 * after) (Some status) more)) strokes
+    → ((tick : ℕ) → meant_by tick message ≡ [])
+    → Does (AreOfTrack Behind (left_of number end (240 * after) (Some status) more)) strokes meant
     → Does (AreOfTrack Behind (left_of number end (240 * before) running (key_bytes (after - before) status key ++ more)))
-    (record { track = number; tick = 240 * after; act = act_of message } ∷ strokes)
-key_does Behind number end before after running status key message more strokes later short low high first is on =
+    (record { track = number; tick = 240 * after; act = act_of message } ∷ strokes) meant
+key_does Behind number end before after running status key message more strokes meant later short low high first is on
+    plain does =
     let delta = 240 * (after - before) in
     let tick : 240 * before + delta ≡ 240 * after = omega arith in
-    rw (append_assoc (quantity delta) (status ∷ key ∷ 0x40 ∷ []) more, ← tick) (event_does Behind
-    (left_of number end (240 * before) running (quantity delta ++ status ∷ key ∷ 0x40 ∷ more)) delta
-    (record { message = message; running = Some status }) more strokes
-    (record {
+    let left = left_of number end (240 * before) running (quantity delta ++ status ∷ key ∷ 0x40 ∷ more) in
+    let event : Event = record { message = message; running = Some status } in
+    let said = event_does Behind left delta event more strokes meant (record {
       behind = status ∷ key ∷ 0x40 ∷ more;
       time = quantity_stands delta (status ∷ key ∷ 0x40 ∷ more) (omega arith);
       stands = subst (λ (m : Message). IsRow (event_row running) (status ∷ key ∷ 0x40 ∷ more)
           (record { message = m; running = Some status }) more) is
           (message_stands running status key 0x40 more low high first (omega arith));
-    }) on)
+    }) on (rw tick does) in
+    rw (append_assoc (quantity delta) (status ∷ key ∷ 0x40 ∷ []) more, ← tick)
+    (subst (λ (l : List Meant). Does (AreOfTrack Behind left) (stroke_of (event_then left delta event) ∷ strokes) (l ++ meant))
+    (plain (240 * before + delta)) said)
 
 -- a meta event of these bytes, at once
 meta_next : (number end tick : ℕ) (running : Option ℕ) (kind : ℕ) (body more : List ℕ) → length body < 2 ^ 21
@@ -168,15 +192,15 @@ abbrev pub tracks_are_voices : Layout
 tracks_are_voices = record { format = 1; top_first = false }
 
 -- the notes that answers of which this is said play
-abbrev Plays : (Answers → Type 0) → List Played → Type 0
-Plays Are notes = (strokes : List Stroke) × Does Are strokes × (notes_in tracks_are_voices strokes ≡ notes)
+abbrev Plays : (Answers → Type 0) → List Played → List Meant → Type 0
+Plays Are notes meant = (strokes : List Stroke) × Does Are strokes meant × (notes_in tracks_are_voices strokes ≡ notes)
 
 note_plays : (Behind : Answers → Type 0) (number end ended : ℕ) (running : Option ℕ) (v : ℕ) (note : Note) (more : List ℕ)
-    (notes : List Played) → ended ≤ note.start → note.start + note.len ≤ 1000 → v < 16
-    → Plays (AreOfTrack Behind (left_of number end (240 * (note.start + note.len)) (Some (0x80 + v)) more)) notes
+    (notes : List Played) (meant : List Meant) → ended ≤ note.start → note.start + note.len ≤ 1000 → v < 16
+    → Plays (AreOfTrack Behind (left_of number end (240 * (note.start + note.len)) (Some (0x80 + v)) more)) notes meant
     → Plays (AreOfTrack Behind (left_of number end (240 * ended) running
-    (note_bytes v (note.start - ended) note.len (midi_key note.pitch) ++ more))) (played_note number note ∷ notes)
-note_plays Behind number end ended running v note more notes later short few (strokes, does, e) =
+    (note_bytes v (note.start - ended) note.len (midi_key note.pitch) ++ more))) (played_note number note ∷ notes) meant
+note_plays Behind number end ended running v note more notes meant later short few (strokes, does, e) =
     let key = midi_key note.pitch in
     let start = note.start in
     let after = note.start + note.len in
@@ -185,12 +209,12 @@ note_plays Behind number end ended running v note more notes later short few (st
     let release : Stroke = record { track = number; tick = 240 * after; act = act_of (Off v key) } in (
       record { track = number; tick = 240 * start; act = act_of (On v key 0x40) } ∷ release ∷ strokes,
       rw append_assoc (key_does Behind number end ended start running (0x90 + v) key (On v key 0x40)
-          (key_bytes note.len (0x80 + v) key ++ more) (release ∷ strokes) later (omega arith) (omega arith) (omega arith) low
-          on refl
+          (key_bytes note.len (0x80 + v) key ++ more) (release ∷ strokes) meant later (omega arith) (omega arith) (omega arith)
+          low on refl (λ tick. refl)
           (subst (λ (n : ℕ). Does (AreOfTrack Behind (left_of number end (240 * start) (Some (0x90 + v))
-          (key_bytes n (0x80 + v) key ++ more))) (release ∷ strokes)) len
-          (key_does Behind number end start after (Some (0x90 + v)) (0x80 + v) key (Off v key) more strokes (omega arith)
-          short (omega arith) (omega arith) low off refl does))),
+          (key_bytes n (0x80 + v) key ++ more))) (release ∷ strokes) meant) len
+          (key_does Behind number end start after (Some (0x90 + v)) (0x80 + v) key (Off v key) more strokes meant
+          (omega arith) short (omega arith) (omega arith) low off refl (λ tick. refl) does))),
       rw (eq-eqb v v refl, eq-eqb key key refl, e) refl,
     )
   where
@@ -208,8 +232,9 @@ note_plays Behind number end ended running v note more notes later short few (st
 
 -- the end of a track, and what is played behind it
 end_plays : (Behind : Answers → Type 0) (number end tick : ℕ) (running : Option ℕ) (notes : List Played)
-    → Plays Behind notes → Plays (AreOfTrack Behind (left_of number end tick running end_bytes)) notes
-end_plays Behind number end tick running notes (strokes, (answers, are, read), e) =
+    (meant : List Meant) → Plays Behind notes meant
+    → Plays (AreOfTrack Behind (left_of number end tick running end_bytes)) notes meant
+end_plays Behind number end tick running notes meant (strokes, (answers, are, read, m), e) =
     let event : Event = record { message = Meta 0x2F []; running = None } in
     let timed = event_then (left_of number end tick running end_bytes) 0 event in (
       stroke_of timed ∷ strokes,
@@ -217,23 +242,24 @@ end_plays Behind number end tick running notes (strokes, (answers, are, read), e
         Ok timed ∷ answers,
         (0, event, [], meta_next number end tick running 0x2F [] [] (omega arith), refl, inl (refl, are)),
         rw read refl,
+        m,
       ),
       e,
     )
 
 -- the track of a voice plays its notes, and then what is behind it is played
 notes_play : (Behind : Answers → Type 0) (number end ended : ℕ) (running : Option ℕ) (v : ℕ) (notes : List Note)
-    (later : List Played) → v < 16 → AreInTurn 1000 ended notes → Plays Behind later
+    (later : List Played) (meant : List Meant) → v < 16 → AreInTurn 1000 ended notes → Plays Behind later meant
     → Plays (AreOfTrack Behind (left_of number end (240 * ended) running (notes_bytes v ended notes ++ end_bytes)))
-    (map (played_note number) notes ++ later)
-notes_play Behind number end ended running v [] later few turn plays =
-    end_plays Behind number end (240 * ended) running later plays
-notes_play Behind number end ended running v (note ∷ notes) later few turn plays =
+    (map (played_note number) notes ++ later) meant
+notes_play Behind number end ended running v [] later meant few turn plays =
+    end_plays Behind number end (240 * ended) running later meant plays
+notes_play Behind number end ended running v (note ∷ notes) later meant few turn plays =
     let after = note.start + note.len in
     rw (append_assoc (note_bytes v (note.start - ended) note.len (midi_key note.pitch)) (notes_bytes v after notes) end_bytes)
     (note_plays Behind number end ended running v note (notes_bytes v after notes ++ end_bytes)
-    (map (played_note number) notes ++ later) turn.0 (turn_within 1000 after notes turn.2) few
-    (notes_play Behind number end after (Some (0x80 + v)) v notes later few turn.2 plays))
+    (map (played_note number) notes ++ later) meant turn.0 (turn_within 1000 after notes turn.2) few
+    (notes_play Behind number end after (Some (0x80 + v)) v notes later meant few turn.2 plays))
 
 -- ---- how long a track is
 
@@ -261,11 +287,12 @@ tracks_short columns v (suc more) few =
 -- ---- the tracks
 
 -- a track whose chunk stands at the front, and those behind it
-track_plays : (more number size : ℕ) (body rest : List ℕ) (notes : List Played) → length body < 2 ^ 32
-    → Plays (AreOfTrack (AreOfTracks more (suc number) size rest) (begun number size body rest)) notes
-    → Plays (AreOfTracks (suc more) number size (chunk_bytes TRACK body ++ rest)) notes
-track_plays more number size body rest notes short (strokes, (answers, are, read), e) =
-    (strokes, (answers, inl (body, rest, track_stands body rest short, are), read), e)
+track_plays : (more number size : ℕ) (body rest : List ℕ) (notes : List Played) (meant : List Meant)
+    → length body < 2 ^ 32
+    → Plays (AreOfTrack (AreOfTracks more (suc number) size rest) (begun number size body rest)) notes meant
+    → Plays (AreOfTracks (suc more) number size (chunk_bytes TRACK body ++ rest)) notes meant
+track_plays more number size body rest notes meant short (strokes, (answers, are, read, m), e) =
+    (strokes, (answers, inl (body, rest, track_stands body rest short, are), read, m), e)
 
 -- the notes of so many voices from one on; the track of a voice is one behind that of the tempo
 abbrev pub voices_played : List (List Cell) → ℕ → ℕ → List Played
@@ -274,33 +301,37 @@ voices_played columns v (suc more) =
     map (played_note (suc v)) (voice_notes columns v) ++ voices_played columns (suc v) more
 
 voices_play : (columns : List (List Cell)) (size v more : ℕ) → length columns ≤ 192 → v + more ≤ 16
-    → Plays (AreOfTracks more (suc v) size (tracks_bytes columns v more)) (voices_played columns v more)
-voices_play columns size v zero few voices = ([], ([], refl, refl), refl)
+    → Plays (AreOfTracks more (suc v) size (tracks_bytes columns v more)) (voices_played columns v more) []
+voices_play columns size v zero few voices = ([], ([], refl, refl, refl), refl)
 voices_play columns size v (suc more) few voices =
     let rest = tracks_bytes columns (suc v) more in
-    track_plays more (suc v) size (voice_body columns v) rest (voices_played columns v (suc more))
+    track_plays more (suc v) size (voice_body columns v) rest (voices_played columns v (suc more)) []
     (omega (arith, body_short columns v))
     (notes_play (AreOfTracks more (suc (suc v)) size rest) (suc v) (size - length rest) 0 None v (voice_notes columns v)
-    (voices_played columns (suc v) more) (omega arith) (voice_in_turn columns v 1000 (omega arith))
+    (voices_played columns (suc v) more) [] (omega arith) (voice_in_turn columns v 1000 (omega arith))
     (voices_play columns size (suc v) more few (omega arith)))
 
 -- the bytes of the first track
 abbrev tempo_body : List ℕ
 tempo_body = 0 ∷ 0xFF ∷ 0x51 ∷ 3 ∷ 0x07 ∷ 0xA1 ∷ 0x20 ∷ 0 ∷ 0xFF ∷ 0x58 ∷ 4 ∷ 4 ∷ 2 ∷ 24 ∷ 8 ∷ end_bytes
 
+-- what they mean: half a second for a quarter note, and a bar of four of them
+abbrev pub tempo_meant : List Meant
+tempo_meant = (0, 0x51, 0x07 ∷ 0xA1 ∷ 0x20 ∷ []) ∷ (0, 0x58, 4 ∷ 2 ∷ 24 ∷ 8 ∷ []) ∷ []
+
 -- it plays nothing
-tempo_plays : (Behind : Answers → Type 0) (end : ℕ) (notes : List Played) → Plays Behind notes
-    → Plays (AreOfTrack Behind (left_of 0 end 0 None tempo_body)) notes
+tempo_plays : (Behind : Answers → Type 0) (end : ℕ) (notes : List Played) → Plays Behind notes []
+    → Plays (AreOfTrack Behind (left_of 0 end 0 None tempo_body)) notes tempo_meant
 tempo_plays Behind end notes plays =
     let tempo : List ℕ = 0x07 ∷ 0xA1 ∷ 0x20 ∷ [] in
     let meter : List ℕ = 4 ∷ 2 ∷ 24 ∷ 8 ∷ [] in
     let second : List ℕ = 0 ∷ 0xFF ∷ 0x58 ∷ 4 ∷ (meter ++ end_bytes) in
-    let over = end_plays Behind 0 end 0 None notes plays in (
+    let over = end_plays Behind 0 end 0 None notes [] plays in (
       _,
-      event_does Behind (left_of 0 end 0 None tempo_body) 0 (record { message = Meta 0x51 tempo; running = None }) second _
+      event_does Behind (left_of 0 end 0 None tempo_body) 0 (record { message = Meta 0x51 tempo; running = None }) second _ _
           (meta_next 0 end 0 None 0x51 tempo second (omega arith)) refl
           (event_does Behind (left_of 0 end 0 None second) 0 (record { message = Meta 0x58 meter; running = None }) end_bytes
-          over.0 (meta_next 0 end 0 None 0x58 meter end_bytes (omega arith)) refl over.1),
+          over.0 [] (meta_next 0 end 0 None 0x58 meter end_bytes (omega arith)) refl over.1),
       over.2,
     )
 
@@ -314,14 +345,15 @@ pub file_back : (score : Grid) → length score.columns ≤ 192 → score.voices
     → (answers : Answers)
     × IsFile (smf_of score) (Ok (record { header = file_header score.voices; answers = answers }))
     × (strokes : List Stroke) × (strokes_in answers ≡ Ok strokes)
-    × (notes_in tracks_are_voices strokes ≡ voices_played score.columns 0 score.voices)
+    × (notes_in tracks_are_voices strokes ≡ voices_played score.columns 0 score.voices) × (meant_in answers ≡ tempo_meant)
 file_back score few low =
     let size = length (smf_of score) in
-    let plays : Plays (AreOfTracks (voices + 1) 0 size behind) (voices_played score.columns 0 voices) =
-    rw (add-one voices) (track_plays voices 0 size tempo_body tracks (voices_played score.columns 0 voices) (omega arith)
+    let plays : Plays (AreOfTracks (voices + 1) 0 size behind) (voices_played score.columns 0 voices) tempo_meant =
+    rw (add-one voices) (track_plays voices 0 size tempo_body tracks (voices_played score.columns 0 voices) tempo_meant
+    (omega arith)
     (tempo_plays (AreOfTracks voices 1 size tracks) (size - length tracks) (voices_played score.columns 0 voices)
     (voices_play score.columns size 0 voices few (omega arith)))) in
-    (plays.1.0, (short, (behind, header, plays.1.1)), plays.0, plays.1.2, plays.2)
+    (plays.1.0, (short, (behind, header, plays.1.1)), plays.0, plays.1.2, plays.2, plays.1.3)
   where
     voices : ℕ
     voices = score.voices

@@ -100,16 +100,16 @@ module _ (ex : Exercise) (score : Grid) (head : Head) (sounding : IsSounding ex 
   abbrev columns : List (List Cell)
   columns = respelled_columns score.columns
 
-  whole : length score.columns ≡ 8 * ex.bars
+  pub whole : length score.columns ≡ 8 * ex.bars
   whole = sounding.given.complete.whole
 
-  count : score.voices ≡ ex.voices
+  pub count : score.voices ≡ ex.voices
   count = sounding.given.complete.voices
 
   lines : lines_of ex.bars placed ≡ map (λ v. line v columns) vs
   lines = lines_back score.columns ex.bars vs sounding.follows whole
 
-  own_cantus : line ex.cantus_voice score.columns ≡ cantus_cells ex.cantus
+  pub own_cantus : line ex.cantus_voice score.columns ≡ cantus_cells ex.cantus
   own_cantus = cantus_line ex score.columns (omega (arith, whole, sounding.valid.whole_cantus)) sounding.given.cantus
 
   cantus_read : cantus_in ex.bars (get_or (lines_of ex.bars placed) head.cantus_voice []) ≡ Ok (map respelled ex.cantus)
@@ -127,7 +127,7 @@ module _ (ex : Exercise) (score : Grid) (head : Head) (sounding : IsSounding ex 
       ∙ ap (λ n. cantus_in n (cantus_cells (map respelled ex.cantus))) bars
       ∙ cantus_back 0 (map respelled ex.cantus)
 
-  last_is : last_slot placed ≡ 8 * ex.bars
+  pub last_is : last_slot placed ≡ 8 * ex.bars
   last_is =
       let v = ex.cantus_voice in
       let own : get_or placed v [] ≡ map placed_note (notes_of 0 (cantus_cells ex.cantus)) =
