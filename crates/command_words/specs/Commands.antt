@@ -266,8 +266,25 @@ kind_in lesson false true = None
 kind_in None true top_first = None
 kind_in (Some lesson) true top_first = Some (read_as.Midi top_first)
 
+-- a page is made where that is wanted, and of texts alone
+abbrev pub page_of : FileKind → Option FileKind
+page_of read_as.Text = Some read_as.Page
+page_of read_as.Page = None
+page_of (read_as.Midi top_first) = None
+
+abbrev pub paged_in : Bool → FileKind → Option FileKind
+paged_in is_page kind = if is_page then page_of kind else Some kind
+
 abbrev pub files_in : List Row → Option FileKind
-files_in rows = kind_in (first_of (codes "lesson") rows) (is_set (codes "midi") rows) (is_set (codes "top-first") rows)
+files_in rows = do
+  kind ← kind_in (first_of (codes "lesson") rows) (is_set (codes "midi") rows) (is_set (codes "top-first") rows)
+  paged_in (is_set (codes "page") rows) kind
+
+-- each name has its place, whatever its file is, where that is wanted, and in each page
+abbrev pub goes_on : FileKind → Bool → Bool
+goes_on read_as.Text wanted = wanted
+goes_on read_as.Page wanted = true
+goes_on (read_as.Midi top_first) wanted = wanted
 
 -- marking a class by itself; or by a lesson or going on, whatever its files are
 abbrev pub classing_of : Text → Option Text → FileKind → Bool → Task
@@ -279,7 +296,7 @@ abbrev pub class_asked : List Row → Option Task
 class_asked rows = do
   list ← first_of (codes "LIST") rows
   kind ← files_in rows
-  Some (classing_of list (first_of (codes "lesson") rows) kind (is_set (codes "keep-going") rows))
+  Some (classing_of list (first_of (codes "lesson") rows) kind (goes_on kind (is_set (codes "keep-going") rows)))
 
 -- the same of files with these names
 abbrev pub filing_of : List Text → Option Text → FileKind → Bool → Task
@@ -299,7 +316,7 @@ abbrev pub files_asked : List Text → List Row → Option Task
 files_asked words rows = do
   names ← if_a_class words
   kind ← files_in rows
-  Some (filing_of names (first_of (codes "lesson") rows) kind (is_set (codes "keep-going") rows))
+  Some (filing_of names (first_of (codes "lesson") rows) kind (goes_on kind (is_set (codes "keep-going") rows)))
 
 abbrev pub canon_asked : List Row → Option Task
 canon_asked rows = do

@@ -89,11 +89,13 @@ pub struct Wanted {
     pub high: Pitch,
 }
 
-/// What the files of a class are.
+/// What the files of a class are, and what is made of them.
 #[derive(Clone, Copy)]
 pub enum FileKind {
     /// Note texts.
     Text,
+    /// Note texts, of which a page is made.
+    Page,
     /// MIDI files, the first track of which is the highest voice where `top_first`, unless the
     /// cantus says otherwise.
     Midi { top_first: bool },

@@ -22,7 +22,13 @@ pub fn files_form<'a>(alloc: Global) -> Result<Command<'a>, AllocError>
     ensures { IfOk result (λ command. app_of command ≡ files_form) }
 {
     let word: &'a str = "class";
-    let parts = &[Part::Lesson, Part::KeepGoing, Part::Midi, Part::TopFirst];
+    let parts = &[
+        Part::Lesson,
+        Part::KeepGoing,
+        Part::Page,
+        Part::Midi,
+        Part::TopFirst,
+    ];
     with_parts(alloc, bare(alloc, word), parts)
 }
 

@@ -5,7 +5,7 @@ ghost use Rattle.clap.specs.Words.{first_of, found_of, rows_of};
 ghost use Rattle.fux_text.specs.Names.{mode_named};
 ghost use Rattle.smf_score.specs.Heads.{IsHead};
 ghost use Rattle.text_lines.specs.Numbers.{number_within};
-ghost use Rattle.command_words.specs.Commands.{AreNamed, HasHead, HasMidiHead, IsNamedSubject, IsWanted, against_in, are_a_class, asks, before_in, before_nth, best_asked, budget_in, canon_asked, cantus_asked, cantus_of, certify_asked, certify_cantus_asked, check_asked, check_cantus_asked, class_asked, classing_of, compose_asked, composing, drill_asked, either_asked, either_by, explain_asked, files_asked, files_in, filing_of, form_in, from_smf_asked, head_in, is_item, is_set, job_asked, join_smf_asked, kind_in, making_task, mark_asked, mark_mixed_asked, marking_of, mixed_asked, mixed_by, named_in, new_cantus_asked, number_at, picture_asked, print_asked, said_of, search_in, subject_in, task_of, texts, wanted_in, weigh_asked, weighing_with, wrap_in};
+ghost use Rattle.command_words.specs.Commands.{AreNamed, HasHead, HasMidiHead, IsNamedSubject, IsWanted, against_in, are_a_class, asks, before_in, before_nth, best_asked, budget_in, canon_asked, cantus_asked, cantus_of, certify_asked, certify_cantus_asked, check_asked, check_cantus_asked, class_asked, classing_of, compose_asked, composing, drill_asked, either_asked, either_by, explain_asked, files_asked, files_in, filing_of, form_in, from_smf_asked, goes_on, head_in, is_item, is_set, job_asked, join_smf_asked, kind_in, making_task, mark_asked, mark_mixed_asked, marking_of, mixed_asked, mixed_by, named_in, new_cantus_asked, number_at, page_of, paged_in, picture_asked, print_asked, said_of, search_in, subject_in, task_of, texts, wanted_in, weigh_asked, weighing_with, wrap_in};
 
 use crate::command::{Command, FileKind, Job, Making, MixedJob, Named, Search, Subject, Wanted};
 use crate::verbs::Verb;
@@ -396,6 +396,24 @@ fn kind_of(lesson: Option<&str>, is_midi: bool, top_first: bool) -> Option<FileK
     }
 }
 
+/// The page of files of a kind: texts alone have one.
+fn page_of(kind: FileKind) -> Option<FileKind>
+    ensures { result ≡ page_of kind }
+{
+    match kind {
+        FileKind::Text => Some(FileKind::Page),
+        FileKind::Page => None,
+        FileKind::Midi { .. } => None,
+    }
+}
+
+/// The same, or their page where that is wanted.
+fn paged_of(is_page: bool, kind: FileKind) -> Option<FileKind>
+    ensures { result ≡ paged_in is_page kind }
+{
+    if is_page { page_of(kind) } else { Some(kind) }
+}
+
 /// The same, by the words.
 fn files_of(matches: &ArgMatches<'_>) -> Option<FileKind>
     ensures { result ≡ files_in (rows_of (found_of matches.now)) }
@@ -403,7 +421,18 @@ fn files_of(matches: &ArgMatches<'_>) -> Option<FileKind>
     let lesson = value(matches, "lesson");
     let is_midi = is_set(matches, "midi");
     let top_first = is_set(matches, "top-first");
-    kind_of(lesson, is_midi, top_first)
+    let kind = kind_of(lesson, is_midi, top_first)?;
+    paged_of(is_set(matches, "page"), kind)
+}
+
+/// Whether each name has its place, whatever its file is.
+fn goes_on(kind: FileKind, wanted: bool) -> bool
+    ensures { result ≡ goes_on kind wanted }
+{
+    match kind {
+        FileKind::Page => true,
+        FileKind::Text | FileKind::Midi { .. } => wanted,
+    }
 }
 
 /// Marking a class by itself; or by a lesson or going on, whatever its files are.
@@ -431,7 +460,8 @@ fn class_asked<'a>(matches: &ArgMatches<'a>) -> Option<Command<'a>>
     let list = value(matches, "LIST")?;
     let kind = files_of(matches)?;
     let lesson = value(matches, "lesson");
-    let going_on = is_set(matches, "keep-going");
+    let wanted = is_set(matches, "keep-going");
+    let going_on = goes_on(kind, wanted);
     Some(classing_of(list, lesson, kind, going_on))
 }
 
@@ -474,7 +504,8 @@ pub fn files_asked<'a>(names: &'a [String], matches: &ArgMatches<'a>) -> Option<
     }
     let kind = files_of(matches)?;
     let lesson = value(matches, "lesson");
-    let going_on = is_set(matches, "keep-going");
+    let wanted = is_set(matches, "keep-going");
+    let going_on = goes_on(kind, wanted);
     Some(filing_of(names, lesson, kind, going_on))
 }
 

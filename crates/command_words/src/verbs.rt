@@ -132,6 +132,8 @@ pub enum Part {
     Lesson,
     /// A class is told of whole, also where a file can't be read.
     KeepGoing,
+    /// A page is made of a class.
+    Page,
     /// The files of a class are MIDI files.
     Midi,
     /// The mode of a MIDI file.
@@ -202,6 +204,7 @@ impl Verb {
                     Part::List,
                     Part::Lesson,
                     Part::KeepGoing,
+                    Part::Page,
                     Part::Midi,
                     Part::TopFirst,
                 ],
@@ -290,6 +293,7 @@ impl Part {
             Part::Penalty => "penalty",
             Part::Lesson => "lesson",
             Part::KeepGoing => "keep-going",
+            Part::Page => "page",
             Part::Midi => "midi",
             Part::Mode => "mode",
             Part::Species => "species",
@@ -326,6 +330,7 @@ impl Part {
             Part::With | Part::Mode | Part::Species | Part::Voice | Part::Cantus => Kind::Needed,
             Part::Penalty
             | Part::KeepGoing
+            | Part::Page
             | Part::Midi
             | Part::TopFirst
             | Part::BySharper

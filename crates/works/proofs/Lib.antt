@@ -21,6 +21,7 @@ pub mod MakeLemmas
 pub mod MixedLemmas
 pub mod NearLemmas
 pub mod NewCantusLemmas
+pub mod PageLemmas
 pub mod ReadBackLemmas
 pub mod WholeLemmas
 pub mod ToldLemmas

@@ -26,13 +26,14 @@ use Rattle.works.specs.declared.work.Output.{Output}
 use Rattle.works.specs.declared.work.Stop.{Stop}
 use Rattle.works.specs.declared.work.Stop.TheVariants as stop
 use Rattle.works.specs.TaskFiles.{as_list}
-use Rattle.works.specs.WholeClasses.{AreSaid, IsSaidIn, IsSayingIn, IsWholeReport, ReportsBy, ReportsList, ReportsNamed, ReportsNames, ReportsWhole, SaysOf, Sought, alone, answers, is_by_lesson, limit_of, played, sought_by, sought_in, whole_output}
+use Rattle.works.specs.WholeClasses.{AreSaid, IsMadeOf, IsSaidIn, IsSayingIn, IsWholeReport, ReportsBy, ReportsList, ReportsNamed, ReportsNames, ReportsWhole, SaysOf, Sought, alone, answers, is_by_lesson, limit_of, played, sought_in, whole_output}
 use Rattle.works.specs.Texts.{Work}
 use Rattle.works.specs.Endings.{Says}
 use Rattle.works.specs.Works.{AllMayHave, Answers, AreContents, AreRead, Files, IsOfCauses, Makes, ReadsOrNot, TellsCauses, TellsNamedCauses}
 use Rattle.works.proofs.ClassLemmas.{map_at}
 use Rattle.works.proofs.JoinedLemmas.{shorter}
 use Rattle.works.proofs.MakeLemmas.{have_bytes}
+use Rattle.works.proofs.PageLemmas.{one_longer, page_so}
 
 -- a count that rose in the first of several calls
 pub rose_sooner : (old mid new : ℕ) → old ≤ mid → mid ≤ new → Rose old mid → Rose old new
@@ -58,13 +59,6 @@ all_so files old new sought (name ∷ names) (saying ∷ sayings) so each = (
   (each.0.0, said_so files old new sought name saying.1 so each.0.1),
   all_so files old new sought names sayings so each.1,
 )
-
-one_longer : {A B : Type 0} (R : A → B → Type 0) (xs : List A) (ys : List B) (x : A) (y : B) → AllZip R xs ys → R x y
-    → AllZip R (xs ++ x ∷ []) (ys ++ y ∷ [])
-one_longer R [] [] x y all one = (one, tt)
-one_longer R [] (z ∷ ys) x y all one = absurd all
-one_longer R (w ∷ xs) [] x y all one = absurd all
-one_longer R (w ∷ xs) (z ∷ ys) x y all one = (all.0, one_longer R xs ys x y all.1 one)
 
 -- nothing is said of a text that was read as of one that could not be
 never_unread : (sought : Sought) (bytes : List ℕ) → SaysOf sought bytes Unread → ⊥
@@ -139,6 +133,7 @@ pub alone_said : {E : Type 0} (kind : FileKind) (found : Option Content) (result
     → IfOk result (IsSaidOrUnread (IsSaid None) 65536 found)
     → IfOk result (IsSaidOrUnread (IsSaid None) (limit_of kind) found)
 alone_said read_as.Text found result is = is
+alone_said read_as.Page found result is = is
 alone_said (read_as.Midi top_first) None result is = is
 alone_said (read_as.Midi top_first) (Some read) (Ok said) is = λ bytes content. is bytes (shorter read bytes content)
 alone_said (read_as.Midi top_first) (Some read) (Err fault) is = tt
@@ -149,6 +144,7 @@ alone_said (read_as.Midi top_first) (Some read) (Err fault) is = tt
 pub by_copied : (kind : FileKind) (o : Option (Bor Exercise)) → is_by_lesson (sought_in kind (option_copied o)) ≡ is_some o
 by_copied kind None = refl
 by_copied read_as.Text (Some x) = refl
+by_copied read_as.Page (Some x) = refl
 by_copied (read_as.Midi top_first) (Some x) = refl
 
 pub whole_is : (files : Files) (failed : Type 0) (sought : Sought) (names : List (List ℕ)) (old new : WholeReport)
@@ -178,26 +174,34 @@ report_so files old new sought names output so is = record {
   written = is.written;
 }
 
-list_so : (files : Files) (old new : Type 0) (sought : Sought) (list : List ℕ) (output : Output) → (old → new)
-    → ReportsList files old sought list output → ReportsList files new sought list output
-list_so files old new sought list output so is = record {
+made_so : (files : Files) (old new : Type 0) (kind : FileKind) (lesson : Option Exercise) (names : List (List ℕ))
+    (output : Output) → (old → new) → IsMadeOf files old kind lesson names output → IsMadeOf files new kind lesson names output
+made_so files old new read_as.Text lesson names output so is =
+    report_so files old new (sought_in read_as.Text lesson) names output so is
+made_so files old new read_as.Page lesson names output so is = page_so files old new lesson names output so is
+made_so files old new (read_as.Midi top_first) lesson names output so is =
+    report_so files old new (sought_in (read_as.Midi top_first) lesson) names output so is
+
+list_so : (files : Files) (old new : Type 0) (kind : FileKind) (lesson : Option Exercise) (list : List ℕ) (output : Output)
+    → (old → new) → ReportsList files old kind lesson list output → ReportsList files new kind lesson list output
+list_so files old new kind lesson list output so is = record {
   names = is.names;
   listed = is.listed;
-  reported = report_so files old new sought is.names output so is.reported;
+  reported = made_so files old new kind lesson is.names output so is.reported;
 }
 
-by_so : (files : Files) (old new : Type 0) (list : List ℕ) (sought : Sought) (work : Work) → (old → new)
-    → ReportsBy files old list sought work → ReportsBy files new list sought work
-by_so files old new list sought (Ok output) so made = list_so files old new sought list output so made
-by_so files old new list sought (Err refusal) so made = made
+by_so : (files : Files) (old new : Type 0) (kind : FileKind) (list : List ℕ) (lesson : Option Exercise) (work : Work)
+    → (old → new) → ReportsBy files old kind list lesson work → ReportsBy files new kind list lesson work
+by_so files old new kind list lesson (Ok output) so made = list_so files old new kind lesson list output so made
+by_so files old new kind list lesson (Err refusal) so made = made
 
 whole_so : (files : Files) (old new : Type 0) (kind : FileKind) (list : List ℕ) (lessons : List (List ℕ)) (work : Work)
     → (old → new) → ReportsWhole files old kind list lessons work → ReportsWhole files new kind list lessons work
-whole_so files old new kind list [] work so made = by_so files old new list alone work so made
+whole_so files old new kind list [] work so made = by_so files old new kind list None work so made
 whole_so files old new kind list (given ∷ []) work so (inl by) = inl record {
   lesson = by.lesson;
   text = by.text;
-  made = by_so files old new list (sought_by kind by.lesson) work so by.made;
+  made = by_so files old new kind list (Some by.lesson) work so by.made;
 }
 whole_so files old new kind list (given ∷ []) work so (inr refused) = inr refused
 whole_so files old new kind list (given ∷ other ∷ more) work so made = absurd made
@@ -248,18 +252,18 @@ module _ (files : Files) (failed : Type 0) (list : List ℕ) (lesson : Option (L
 
 -- ---- names that the words give
 
-names_so : (files : Files) (old new : Type 0) (names : List (List ℕ)) (sought : Sought) (work : Work)
-    → (old → new) → ReportsNames files old names sought work → ReportsNames files new names sought work
-names_so files old new names sought (Ok output) so made = report_so files old new sought names output so made
-names_so files old new names sought (Err refusal) so made = made
+names_so : (files : Files) (old new : Type 0) (kind : FileKind) (names : List (List ℕ)) (lesson : Option Exercise)
+    (work : Work) → (old → new) → ReportsNames files old kind names lesson work → ReportsNames files new kind names lesson work
+names_so files old new kind names lesson (Ok output) so made = made_so files old new kind lesson names output so made
+names_so files old new kind names lesson (Err refusal) so made = made
 
 named_so : (files : Files) (old new : Type 0) (kind : FileKind) (names lessons : List (List ℕ)) (work : Work)
     → (old → new) → ReportsNamed files old kind names lessons work → ReportsNamed files new kind names lessons work
-named_so files old new kind names [] work so made = names_so files old new names alone work so made
+named_so files old new kind names [] work so made = names_so files old new kind names None work so made
 named_so files old new kind names (given ∷ []) work so (inl by) = inl record {
   lesson = by.lesson;
   text = by.text;
-  made = names_so files old new names (sought_by kind by.lesson) work so by.made;
+  made = names_so files old new kind names (Some by.lesson) work so by.made;
 }
 named_so files old new kind names (given ∷ []) work so (inr refused) = inr refused
 named_so files old new kind names (given ∷ other ∷ more) work so made = absurd made

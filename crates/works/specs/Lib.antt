@@ -7,6 +7,7 @@ pub mod Certified
 pub mod Charged
 pub mod Checked
 pub mod Classes
+pub mod ClassPages
 pub mod Complaints
 pub mod Composed
 pub mod Drilled

@@ -16,6 +16,7 @@ use Rattle.works.specs.declared.refusal.Refusal.{Refusal}
 use Rattle.works.specs.declared.refusal.Refusal.TheVariants as refusal
 use Rattle.works.specs.declared.work.Output.{Output}
 use Rattle.works.specs.Answered.{OnLesson}
+use Rattle.works.specs.ClassPages.{IsClassPage}
 use Rattle.works.specs.Classes.{class_verdict}
 use Rattle.works.specs.Texts.{Work}
 
@@ -30,6 +31,7 @@ pub data Sought : Type 0 where
 -- what is asked by a lesson
 abbrev pub sought_by : FileKind → Exercise → Sought
 sought_by read_as.Text lesson = answers lesson
+sought_by read_as.Page lesson = answers lesson
 sought_by (read_as.Midi top_first) lesson = played lesson top_first
 
 -- by itself each file is a text
@@ -46,6 +48,7 @@ is_by_lesson (played lesson top_first) = true
 -- how many bytes of each file are read at most
 abbrev pub limit_of : FileKind → ℕ
 limit_of read_as.Text = 65536
+limit_of read_as.Page = 65536
 limit_of (read_as.Midi top_first) = 1048576
 
 -- ---- one file
@@ -99,39 +102,48 @@ pub record IsWholeReport (files : Option (List ℕ → Option (List ℕ))) (fail
   pub whole : IsWholeOf (is_by_lesson sought) sayings report
   pub written : output ≡ whole_output report
 
--- an output is the report of the files that a list names
-pub record ReportsList (files : Option (List ℕ → Option (List ℕ))) (failed : Type 0) (sought : Sought) (list : List ℕ)
-    (output : Output) : Type 0 where
+-- what is made of a class, by a lesson where there is one: a report, or a page
+abbrev pub IsMadeOf : Option (List ℕ → Option (List ℕ)) → Type 0 → FileKind → Option Exercise → List (List ℕ) → Output
+    → Type 0
+IsMadeOf files failed read_as.Text lesson = IsWholeReport files failed (sought_in read_as.Text lesson)
+IsMadeOf files failed read_as.Page lesson = IsClassPage files failed lesson
+IsMadeOf files failed (read_as.Midi top_first) lesson =
+    IsWholeReport files failed (sought_in (read_as.Midi top_first) lesson)
+
+-- an output is what is made of the files that a list names
+pub record ReportsList (files : Option (List ℕ → Option (List ℕ))) (failed : Type 0) (kind : FileKind)
+    (lesson : Option Exercise) (list : List ℕ) (output : Output) : Type 0 where
   pub names : List (List ℕ)
   pub listed : loose_names list ≡ Ok names
-  pub reported : IsWholeReport files failed sought names output
+  pub reported : IsMadeOf files failed kind lesson names output
 
 -- a refusal of bytes that are no list: it tells the first line at fault
 abbrev pub RefusesLoose : List ℕ → Refusal → Type 0
 RefusesLoose list (refusal.List line) = loose_names list ≡ Err line
 RefusesLoose list _ = ⊥
 
--- `class` makes this of a list
-abbrev pub ReportsBy : Option (List ℕ → Option (List ℕ)) → Type 0 → List ℕ → Sought → Work → Type 0
-ReportsBy files failed list sought (Ok output) = ReportsList files failed sought list output
-ReportsBy files failed list sought (Err refusal) = RefusesLoose list refusal
+-- `class` makes this of a list, by a lesson where there is one
+abbrev pub ReportsBy : Option (List ℕ → Option (List ℕ)) → Type 0 → FileKind → List ℕ → Option Exercise → Work → Type 0
+ReportsBy files failed kind list lesson (Ok output) = ReportsList files failed kind lesson list output
+ReportsBy files failed kind list lesson (Err refusal) = RefusesLoose list refusal
 
 -- `class` makes this of a list, and of the text of a lesson where one is given
 abbrev pub ReportsWhole : Option (List ℕ → Option (List ℕ)) → Type 0 → FileKind → List ℕ → List (List ℕ) → Work → Type 0
-ReportsWhole files failed kind list [] work = ReportsBy files failed list alone work
+ReportsWhole files failed kind list [] work = ReportsBy files failed kind list None work
 ReportsWhole files failed kind list (given ∷ []) work =
-    OnLesson (λ lesson. ReportsBy files failed list (sought_by kind lesson)) given work
+    OnLesson (λ lesson. ReportsBy files failed kind list (Some lesson)) given work
 ReportsWhole files failed kind list _ work = ⊥
 
--- `class` makes this of names that the words give
-abbrev pub ReportsNames : Option (List ℕ → Option (List ℕ)) → Type 0 → List (List ℕ) → Sought → Work → Type 0
-ReportsNames files failed names sought (Ok output) = IsWholeReport files failed sought names output
-ReportsNames files failed names sought (Err refusal) = ⊥
+-- `class` makes this of names that the words give, by a lesson where there is one
+abbrev pub ReportsNames : Option (List ℕ → Option (List ℕ)) → Type 0 → FileKind → List (List ℕ) → Option Exercise → Work
+    → Type 0
+ReportsNames files failed kind names lesson (Ok output) = IsMadeOf files failed kind lesson names output
+ReportsNames files failed kind names lesson (Err refusal) = ⊥
 
 -- and this, of the text of a lesson where one is given
 abbrev pub ReportsNamed : Option (List ℕ → Option (List ℕ)) → Type 0 → FileKind → List (List ℕ) → List (List ℕ) → Work
     → Type 0
-ReportsNamed files failed kind names [] work = ReportsNames files failed names alone work
+ReportsNamed files failed kind names [] work = ReportsNames files failed kind names None work
 ReportsNamed files failed kind names (given ∷ []) work =
-    OnLesson (λ lesson. ReportsNames files failed names (sought_by kind lesson)) given work
+    OnLesson (λ lesson. ReportsNames files failed kind names (Some lesson)) given work
 ReportsNamed files failed kind names _ work = ⊥

@@ -1,5 +1,5 @@
-//! The command `class`, where each name of the list has its place in the report, also where its
-//! file can't be read.
+//! The command `class`, where each name of the list has its place in the report or on the page,
+//! also where its file can't be read.
 
 ghost use Rattle.std.specs.Prelude.{◌≡◌, ◌+◌, ◌*◌, ◌≤◌, ℕ, IfErr, IfOk, List, length, map, string_bytes};
 ghost use Rattle.std.specs.Option.{ForSome, option_copied};
@@ -14,7 +14,7 @@ ghost use Rattle.works.specs.Blame.{Blames, BlamesNoFile, IsUnserved, ServesTask
 ghost use Rattle.works.specs.Endings.{IsMade};
 ghost use Rattle.works.specs.Little.{ReadsLittle};
 ghost use Rattle.works.specs.TaskFiles.{as_list, names_listed};
-ghost use Rattle.works.specs.WholeClasses.{AreSaid, IsWholeReport, ReportsBy, ReportsNamed, ReportsWhole, SaysOf, limit_of, sought_by, sought_in, whole_output};
+ghost use Rattle.works.specs.WholeClasses.{AreSaid, IsMadeOf, IsWholeReport, ReportsBy, ReportsNamed, ReportsWhole, SaysOf, limit_of, sought_by, sought_in, whole_output};
 ghost use Rattle.works.specs.Works.{Answers, AreContents, IsOfCauses, OnTexts, ReadsOrNot};
 
 use crate::answering::lesson_of;
@@ -22,6 +22,7 @@ use crate::complaint::Complaint;
 use crate::content::read_content;
 use crate::exercise::LONGEST_TEXT;
 use crate::making::{read_weights, said};
+use crate::paging::page_names;
 use crate::playing::LONGEST_MIDI;
 use crate::refusal::Refusal;
 use crate::work::{Output, Stop, Verdict};
@@ -34,7 +35,7 @@ use fux_port::Shelf;
 use std::alloc::Global;
 
 /// What was read of the file of a name, or nothing where it can't be read.
-fn content_or_none<F: Shelf>(
+pub(crate) fn content_or_none<F: Shelf>(
     alloc: Global,
     shelf: &mut F,
     name: &str,
@@ -58,7 +59,7 @@ fn limit_of(kind: FileKind) -> usize
     ensures { result ≡ limit_of kind }
 {
     match kind {
-        FileKind::Text => LONGEST_TEXT,
+        FileKind::Text | FileKind::Page => LONGEST_TEXT,
         FileKind::Midi { .. } => LONGEST_MIDI,
     }
 }
@@ -76,6 +77,7 @@ fn say_answer(
 {
     match kind {
         FileKind::Text => say(alloc, Some(lesson), found),
+        FileKind::Page => say(alloc, Some(lesson), found),
         FileKind::Midi { top_first } => say_joined(alloc, lesson, found, top_first),
     }
 }
@@ -143,7 +145,7 @@ fn output_of(report: WholeReport) -> Output
 }
 
 /// The report of the files of these names, by a lesson where there is one.
-fn report_names<F: Shelf>(
+fn told_names<F: Shelf>(
     alloc: Global,
     lesson: Option<&Exercise>,
     kind: FileKind,
@@ -164,7 +166,33 @@ fn report_names<F: Shelf>(
     Ok(output_of(report))
 }
 
-/// The report of the files that a list names, by a lesson where there is one.
+/// What is made of the files of these names, by a lesson where there is one: a report, or a page.
+fn report_names<F: Shelf>(
+    alloc: Global,
+    lesson: Option<&Exercise>,
+    kind: FileKind,
+    names: &[String],
+    shelf: &mut F,
+) -> Result<Output, Memory>
+    requires { ForSome lesson (λ exercise. IsValid exercise.now) }
+    ensures reported { IfOk result (IsMadeOf (F.files shelf.old)
+        (Rose (F.faults shelf.old) (F.faults shelf.new)) kind (option_copied lesson.entry)
+        (map string_bytes names.now)) }
+    ensures little { F.given shelf.new ≤ F.given shelf.old
+        + (limit_of kind + 1) * length names.now }
+    ensures files { F.files shelf.new ≡ F.files shelf.old }
+    ensures faults { F.faults shelf.old ≤ F.faults shelf.new }
+{
+    match kind {
+        FileKind::Text => told_names(alloc, lesson, FileKind::Text, names, shelf),
+        FileKind::Page => page_names(alloc, lesson, names, shelf),
+        FileKind::Midi { top_first } => {
+            told_names(alloc, lesson, FileKind::Midi { top_first }, names, shelf)
+        }
+    }
+}
+
+/// What is made of the files that a list names, by a lesson where there is one.
 fn report_list<F: Shelf>(
     alloc: Global,
     lesson: Option<&Exercise>,
@@ -175,7 +203,7 @@ fn report_list<F: Shelf>(
     requires { ForSome lesson (λ exercise. IsValid exercise.now) }
     ensures reported { (bytes : List ℕ) → IsContent 65536 list.now bytes
         → Answers (ReportsBy (F.files shelf.old) (Rose (F.faults shelf.old) (F.faults shelf.new))
-        bytes (sought_in kind (option_copied lesson.entry))) result }
+        kind bytes (option_copied lesson.entry)) result }
     ensures little { (bytes : List ℕ) → IsContent 65536 list.now bytes → F.given shelf.new
         ≤ F.given shelf.old + (limit_of kind + 1) * length (names_listed (loose_names bytes)) }
     ensures files { F.files shelf.new ≡ F.files shelf.old }

@@ -23,6 +23,7 @@ mod making;
 mod marking;
 mod mixing;
 mod numbering;
+mod paging;
 mod playing;
 mod refusal;
 mod rendering;

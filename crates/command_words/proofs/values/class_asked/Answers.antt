@@ -6,5 +6,11 @@ returns-in_err-list-clause-asked c = rw (c.from_residual.ensures, ← c.in_err-l
 
 pub returns-clause-asked : goal.returns-clause-asked
 returns-clause-asked c =
-    rw (← c.in_ok-list.ensures, ← c.in_ok-kind.ensures, ← c.value-lesson.ensures, ← c.is_set-going_on.ensures)
+    rw (
+      ← c.in_ok-list.ensures,
+      ← c.in_ok-kind.ensures,
+      ← c.value-lesson.ensures,
+      ← c.is_set-wanted.ensures,
+      ← c.goes_on-going_on.ensures,
+    )
     (ap (λ task. Some task) c.classing_of.ensures.asked)
