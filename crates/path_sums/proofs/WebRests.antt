@@ -1,5 +1,5 @@
 -- A node's number is the least sum of what is left from what is kept at its spot on
--- (`numbers_are_rests`).
+-- (`sum` of `PathSums`).
 use Rattle.std.proofs.Common.{◌≡◌, ℕ, zero, suc, ◌+◌, ◌-◌, ◌*◌, ◌<◌, ◌≤◌, ◌==◌, ◌&&◌, ◌||◌, nat_lt, ◌⊎◌, inl, inr, Bool, true, false, List, Option, Some, None, option_map, option_and_then, length, refl, sym, ap, ap₂, subst, ◌∙◌, arith, slice_get, if◌then◌else◌}
 use Rattle.std.specs.Prelude.{IsSomeAnd, min}
 use Rattle.std.proofs.lemmas.Bool.{eq-eqb}
