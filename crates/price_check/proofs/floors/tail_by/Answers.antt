@@ -1,11 +1,10 @@
-use Rattle.std.proofs.Common.{◌≡◌, ◌<◌, ℕ, ◌+◌, ◌-◌, ◌∷◌, None, Some, refl, ap, ap₂, arith, drop, length, map, option_map, slice_get, slice_index_or, subst, sym, ◌∙◌}
+use Rattle.std.proofs.Common.{◌≡◌, ◌<◌, ◌+◌, ◌-◌, None, Some, refl, ap, ap₂, arith, drop, length, map, option_map, slice_get, slice_index_or, sym, ◌∙◌}
 use Rattle.std.proofs.lemmas.List.{drop_more}
 use Rattle.std.proofs.lemmas.Option.{slice_get_read}
 use Rattle.floor_graphs.specs.Sharper.{greater}
-use Rattle.fux_grid.specs.declared.exercise.Exercise.{Exercise}
-use Rattle.price_check.specs.Floors.{exercise_of, list_of}
+use Rattle.price_check.specs.Floors.{list_of}
 use Rattle.price_check.proofs.Places.{drop_end, sum_for, tail_told}
-use Rattle.price_law.specs.PriceLists.{greatest_sum, list_sum, spent_of}
+use Rattle.price_law.specs.PriceLists.{greatest_sum, list_sum}
 use Rattle.price_check.proofs.floors.tail_by.Goals as goal
 
 pub loop-turn-init : goal.loop-turn-init
