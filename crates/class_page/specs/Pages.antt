@@ -16,8 +16,8 @@ Named = List ℕ × Entry
 
 -- what is made of each of some names, which are counted from a number on
 abbrev pub numbered : (ℕ → Named → List ℕ) → ℕ → List Named → List ℕ
-numbered row from [] = []
-numbered row from (named ∷ others) = row from named ++ numbered row (from + 1) others
+numbered made from [] = []
+numbered made from (named ∷ others) = made from named ++ numbered made (from + 1) others
 
 -- ---- the table
 
@@ -41,8 +41,8 @@ differs_cell Bare = []
 differs_cell Unread = []
 
 -- the row of a name, which leads to what is said of its file
-unfoldable pub table_row : ℕ → Named → List ℕ
-table_row number named =
+unfoldable pub row_of : ℕ → Named → List ℕ
+row_of number named =
     codes "<tr><td><a href=\"#a" ++ decimal number ++ codes "\">" ++ escaped named.0
     ++ codes "</a></td><td>" ++ marks_cell named.1 ++ codes "</td><td>" ++ differs_cell named.1
     ++ codes "</td></tr>\n"
@@ -91,7 +91,7 @@ table rows =
 -- the whole page: the names with how many marks each has, and then a part for each
 unfoldable pub page_of : List Named → List ℕ
 page_of class =
-    HEAD.now ++ symbols ++ table (numbered table_row 1 class) ++ numbered section 1 class
+    HEAD.now ++ symbols ++ table (numbered row_of 1 class) ++ numbered section 1 class
     ++ codes "</body>\n</html>\n"
 
 -- ---- the page of some names so far
@@ -110,7 +110,7 @@ is_right Unread = false
 
 -- the rows of the table and the parts of these names, and whether nothing is wrong in their files
 pub record IsPageSoFar (class : List Named) (page : ClassPage) : Type 0 where
-  pub rows : page.rows.items ≡ numbered table_row 1 class
+  pub rows : page.rows.items ≡ numbered row_of 1 class
   pub sections : page.sections.items ≡ numbered section 1 class
   pub count : page.count ≡ length class
   pub all_right : page.all_right ≡ list_all (λ (named : Named). is_right named.1) class

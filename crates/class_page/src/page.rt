@@ -4,7 +4,7 @@ ghost use Rattle.std.specs.Prelude.{◌≡◌, ◌+◌, ◌<◌, ◌^◌, ◌&&�
 ghost use Rattle.std.specs.Fmt.{decimal};
 ghost use Rattle.class_page.specs.Escapes.{escaped};
 ghost use Rattle.class_page.specs.Pages as words;
-ghost use Rattle.class_page.specs.Pages.{IsPageSoFar, Named, count_cell, differs_cell, entry_rows, marks_cell, page_of, pre, section, sentence, shown_rows, symbols, table, table_row};
+ghost use Rattle.class_page.specs.Pages.{IsPageSoFar, Named, count_cell, differs_cell, entry_rows, marks_cell, page_of, pre, row_of, section, sentence, shown_rows, symbols, table};
 
 use crate::entry::{Entry, Shown};
 use crate::escape::{put, put_escaped};
@@ -116,7 +116,7 @@ fn still_right(all_right: bool, entry: &Entry) -> bool
 }
 
 /// Appends the row of a name.
-#[tactic(auto, unfolding(crate::specs::Pages::table_row))]
+#[tactic(auto, unfolding(crate::specs::Pages::row_of))]
 fn put_row(
     alloc: Global,
     out: &mut Vec<u8>,
@@ -125,7 +125,7 @@ fn put_row(
     entry: &Entry,
 ) -> Result<(), Memory>
     ensures { OnOk result (out.new.items ≡ out.old.items
-        ++ table_row number (name.now, entry.now)) }
+        ++ row_of number (name.now, entry.now)) }
 {
     put(out, "<tr><td><a href=\"#a")?;
     put_number(alloc, out, number)?;

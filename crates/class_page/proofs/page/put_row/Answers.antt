@@ -2,11 +2,11 @@ use Rattle.std.proofs.Common.{◌++◌, codes, ap}
 use Rattle.std.specs.Fmt.{decimal}
 use Rattle.mark_evidence.proofs.Pushed.{pushed, said}
 use Rattle.class_page.specs.Escapes.{escaped}
-use Rattle.class_page.specs.Pages.{differs_cell, marks_cell, table_row}
+use Rattle.class_page.specs.Pages.{differs_cell, marks_cell, row_of}
 use Rattle.class_page.proofs.page.put_row.Goals as goal
 
 pub returns : goal.returns
-unfolding table_row
+unfolding row_of
 returns c =
     let start = c.args.out.now.items in
     let t1 = codes "<tr><td><a href=\"#a" in
