@@ -18,7 +18,7 @@ pub use exercise::last_slot;
 pub use fault::SmfFault;
 pub use grid::cells_of;
 pub use order::put_in_order;
-pub use placed::{Placed, places_of};
+pub use placed::{Placed, place_voice, places_of, run_of, slot};
 pub use played::{Layout, Played, notes_of};
 pub use read_back::scores_read_back;
 pub use reading::{from_smf, one_reading};

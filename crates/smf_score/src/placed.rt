@@ -23,7 +23,7 @@ pub struct Placed {
 }
 
 /// The slot of a tick, where a quarter note has so many ticks: the nearest one, the later of two.
-fn slot(division: u32, tick: u64) -> u64
+pub fn slot(division: u32, tick: u64) -> u64
     requires division { 0 < division }
     requires tick { tick < 2 ^ 48 }
     ensures { result ≡ slot_of division tick }
@@ -57,7 +57,7 @@ fn place(division: u32, ended: u64, note: &Played) -> Result<Placed, SmfFault>
 }
 
 /// The notes of a voice on the grid, or its first note at fault.
-fn place_voice(alloc: Global, division: u32, notes: &[Played]) -> Result<Vec<Placed>, SmfFault>
+pub fn place_voice(alloc: Global, division: u32, notes: &[Played]) -> Result<Vec<Placed>, SmfFault>
     requires division { 0 < division }
     requires notes { All IsPlayed notes.now }
     ensures value { Gives (λ v. v.items) result (voice_placed division notes.now) }
@@ -74,7 +74,7 @@ fn place_voice(alloc: Global, division: u32, notes: &[Played]) -> Result<Vec<Pla
 }
 
 /// How many of the first notes are of the voice of a rank.
-fn run_of(notes: &[Played], rank: u16) -> usize
+pub fn run_of(notes: &[Played], rank: u16) -> usize
     ensures value { result ≡ prefix_len (λ note. note.rank == rank) notes.now }
     ensures within { result ≤ length notes.now }
 {
