@@ -1,6 +1,7 @@
--- At which places a column settles breaks of the late rules (`clash_places`).
+-- At which places a column settles breaks of the late rules (`clash_places`), and that a quiet one
+-- settles none of S15 and S27 (`quiet_settles`).
 use Rattle.std.specs.Prelude.{◌≡◌, ◌≢◌, ℕ, zero, suc, ◌+◌, ◌-◌, ◌*◌, ◌%◌, ◌<◌, ◌≤◌, ◌==◌, ◌&&◌, ◌||◌, Bool, true, false, not, nat_le, nat_lt, List, [], ◌∷◌, ◌++◌, Option, Some, None, is_some, drop, length, slice_index_or, if◌then◌else◌, refl}
-use Rattle.std.proofs.Common.{ap, sym, ◌∙◌, subst, inl, inr, arith}
+use Rattle.std.proofs.Common.{◌⊎◌, ap, sym, ◌∙◌, subst, inl, inr, arith}
 use Rattle.std.proofs.lemmas.Bool.{and_parts, and_from, both_ways, cases_Bool, cases_eq, eqb-false, eqb-true, eq-eqb, cases_lt, leb-false, leb-true, lt-ltb, ltb-false, ltb-true, ne_eqb, not-true, or_cases, or_left, or_parts}
 use Rattle.std.proofs.lemmas.List.{append-nil, drop-append-le, get_or_push, length-append, length-drop}
 use Rattle.std.proofs.Math.ListN.{get_or-append}
@@ -16,7 +17,7 @@ use Rattle.rule_law.specs.Bars.{begins_bar}
 use Rattle.rule_law.specs.Growth.{newly}
 use Rattle.rule_law.specs.Places.{reading_of, settled_by}
 use Rattle.rule_law.specs.Prefixes.{GoesOn}
-use Rattle.rule_law.specs.Quiet.{on_pair-none}
+use Rattle.rule_law.specs.Quiet.{is_quiet, on_pair-none, quiet_cell, quiet_slot}
 use Rattle.rule_law.specs.Rulebooks.{IsAmong, newly_breaks}
 use Rattle.rule_law.specs.Terms.{clash, starts}
 use Rattle.rule_law.specs.Voices.{holds_of_pair, is_free, pair_of}
@@ -220,6 +221,14 @@ excuse_start ex voices i behind now ahead menu = at (pair_of voices)
         of_two pair.0 pair.1
         (and_parts (nat_lt pair.1 ex.voices) (clash_unexcused ex i behind now ahead pair.0 pair.1) h).1
 
+-- in a list S15 is open at a place for one way to name the voices, and in a longer one it isn't
+record IsClosing (ex : Exercise) (p s : List (List Cell)) (i : ℕ) : Type 0 where
+  pub v : ℕ
+  pub w : ℕ
+  pub free : is_free ex v ≡ true
+  pub opens : is_open_clash ex i (slice_index_or p i []) (drop (i + 1) p) v w ≡ true
+  pub closed : is_open_clash ex i (slice_index_or s i []) (drop (i + 1) s) v w ≡ false
+
 module _ (ex : Exercise) (voices : ℕ) (p : List (List Cell)) (col : List Cell) (i : ℕ) (on : GoesOn ex p (col ∷ []))
   where
     abbrev grown : List (List Cell)
@@ -301,11 +310,12 @@ module _ (ex : Exercise) (voices : ℕ) (p : List (List Cell)) (col : List Cell)
           alone zero k = silent
           alone (suc k) h = absurd (omega (arith, h))
 
-      settles : may_settle_in ex (length p) ≡ true
-      settles =
+      -- the voice starts a note in the newest column, or the last bar begins there
+      closes : (starts (cell_in col v) ≡ true) ⊎ (length p % 8 ≡ 0)
+      closes =
           elim (cases_Bool (starts (cell_in col v))) [
-            | inl e ↦ newest_settles v free other e
-            | inr e ↦ at (reaches_last_bar ex i (ahead grown)) refl (same_notes e)
+            | inl e ↦ inl e
+            | inr e ↦ inr (at (reaches_last_bar ex i (ahead grown)) refl (same_notes e))
           ]
         where
           begun : reaches_last_bar ex i (ahead grown) ≡ true → length p % 8 ≡ 0
@@ -328,9 +338,23 @@ module _ (ex : Exercise) (voices : ℕ) (p : List (List Cell)) (col : List Cell)
               ∙ rw (parts.0, f, g) refl
 
           at : (b : Bool) → reaches_last_bar ex i (ahead grown) ≡ b → has_notes_after (species_in ex v) i v (ahead grown)
-              ≡ false → may_settle_in ex (length p) ≡ true
-          at true g f = settles_in ex v other (length p) (settles_at_bar (species_in ex v) (length p) other (begun g))
+              ≡ false → length p % 8 ≡ 0
+          at true g f = begun g
           at false g f = absurd (both_ways (is_open_clash ex i (here grown) (ahead grown) v w) closed (open_still f g))
+
+      settles : may_settle_in ex (length p) ≡ true
+      settles =
+          elim closes [
+            | inl e ↦ newest_settles v free other e
+            | inr e ↦ settles_in ex v other (length p) (settles_at_bar (species_in ex v) (length p) other e)
+          ]
+
+      stirs : is_quiet (length p) col ≡ true → ⊥
+      stirs quiet =
+          elim closes [
+            | inl e ↦ both_ways (starts (cell_in col v)) (quiet_cell (length p) col quiet v) e
+            | inr e ↦ both_ways (begins_bar (length p)) (quiet_slot (length p) col quiet) (eq-eqb (length p % 8) 0 e)
+          ]
 
     among : (n : ℕ) → has_places_in n ex ≡ true → length p ≤ i + passing_reach ex → i ≤ length p
         → may_settle_in ex (length p) ≡ true
@@ -349,22 +373,39 @@ module _ (ex : Exercise) (voices : ℕ) (p : List (List Cell)) (col : List Cell)
         ltb-true i (length grown)
         (and_parts (nat_lt i (length grown)) (reading_of (passing_enough ex voices) grown i) now_then.0).0
 
-    told_places : (n : ℕ) → newly_passing ex voices p col i ≡ true → IsStart ex n i (here grown)
-        → IsAmong (length p - passing_reach ex) (passing_count n ex (length p)) i
-    told_places n h there =
+    -- a way that was open before the newest column, which closes it
+    closing : newly_passing ex voices p col i ≡ true → i < length p → IsClosing ex p grown i
+    closing h within =
         let now_then = and_parts (settled_by (passing_enough ex voices) grown i)
         (not (settled_by (passing_enough ex voices) p i)) h in
         let settled = and_parts (nat_lt i (length grown)) (reading_of (passing_enough ex voices) grown i) now_then.0 in
+        let one = way_of ex (is_open_clash ex i (here p) (ahead p)) voices (still_open (not-true _ now_then.1)) in
+        record {
+          v = one.v;
+          w = one.w;
+          free = one.free;
+          opens = one.passes;
+          closed = one.fails (is_open_clash ex i (here grown) (ahead grown)) (not-true _ settled.1);
+        }
+      where
+        still_open : settled_by (passing_enough ex voices) p i ≡ false
+            → on_some_way ex (is_open_clash ex i (here p) (ahead p)) voices ≡ true
+        still_open h =
+            elim (cases_Bool (on_some_way ex (is_open_clash ex i (here p) (ahead p)) voices)) [
+              | inl e ↦ e
+              | inr e ↦ absurd (both_ways (settled_by (passing_enough ex voices) p i) h
+                  (and_from (nat_lt i (length p)) _ (lt-ltb i (length p) within) (ap not e)))
+            ]
+
+    told_places : (n : ℕ) → newly_passing ex voices p col i ≡ true → IsStart ex n i (here grown)
+        → IsAmong (length p - passing_reach ex) (passing_count n ex (length p)) i
+    told_places n h there =
         elim (cases_lt i (length p)) [
           | inl within ↦
-              let unsettled : settled_by (passing_enough ex voices) p i ≡ false = not-true _ now_then.1 in
-              let opened : on_some_way ex (is_open_clash ex i (here p) (ahead p)) voices
-              ≡ true = still_open within unsettled in
-              let one = way_of ex (is_open_clash ex i (here p) (ahead p)) voices opened in
-              let closed = one.fails (is_open_clash ex i (here grown) (ahead grown)) (not-true _ settled.1) in
-              among n there.places (near within there.slot one.v one.w one.free one.passes closed)
+              let one = closing h within in
+              among n there.places (near within there.slot one.v one.w one.free one.opens one.closed)
               (omega (arith, within))
-              (settles within there.slot one.v one.w one.free one.passes closed)
+              (settles within there.slot one.v one.w one.free one.opens one.closed)
           | inr past ↦
               let last : i ≡ length p = omega (arith, past, placed h, size) in
               let menu : IsInMenu ex i (here grown) = on.longer.menus i (placed h) in
@@ -374,32 +415,57 @@ module _ (ex : Exercise) (voices : ℕ) (p : List (List Cell)) (col : List Cell)
               (ap (may_settle_in ex) (sym last) ∙ settles_in ex there.v other i
               (starter_settles ex there.v i (here grown) menu there.free there.start other))
         ]
-      where
-        still_open : i < length p → settled_by (passing_enough ex voices) p i ≡ false
-            → on_some_way ex (is_open_clash ex i (here p) (ahead p)) voices ≡ true
-        still_open within h =
-            elim (cases_Bool (on_some_way ex (is_open_clash ex i (here p) (ahead p)) voices)) [
-              | inl e ↦ e
-              | inr e ↦ absurd (both_ways (settled_by (passing_enough ex voices) p i) h
-                  (and_from (nat_lt i (length p)) _ (lt-ltb i (length p) within) (ap not e)))
-            ]
+
+    told_stirs : (n : ℕ) → newly_passing ex voices p col i ≡ true → IsStart ex n i (here grown)
+        → is_quiet (length p) col ≡ true → ⊥
+    told_stirs n h there quiet =
+        elim (cases_lt i (length p)) [
+          | inl within ↦
+              let one = closing h within in
+              stirs within there.slot one.v one.w one.free one.opens one.closed quiet
+          | inr past ↦
+              let last : length p ≡ i = omega (arith, past, placed h, size) in
+              both_ways (starts (cell_in col there.v)) (quiet_cell (length p) col quiet there.v)
+              (ap (λ c. starts (cell_in c there.v)) (sym (get_or_push p col [] i last)) ∙ there.start)
+        ]
+
+    passing_there : newly_breaks (late_row passing_rule) ex voices p col i ≡ true
+        → (newly_passing ex voices p col i ≡ true) × IsStart ex passing_rule i (here grown)
+    passing_there h =
+        let parts = and_parts (newly_passing ex voices p col i) (reading_of (clash_row passing_rule ex voices) grown i) h
+        in
+        (parts.0, passing_start ex voices i (earlier grown i) (here grown) (ahead grown) parts.1)
+
+    excuse_there : newly_breaks (late_row excuse_rule) ex voices p col i ≡ true
+        → (newly_passing ex voices p col i ≡ true) × IsStart ex excuse_rule i (here grown)
+    excuse_there h =
+        let parts = and_parts (newly_passing ex voices p col i) (reading_of (clash_row excuse_rule ex voices) grown i) h
+        in (
+          parts.0,
+          excuse_start ex voices i (earlier grown i) (here grown) (ahead grown) (on.longer.menus i (placed parts.0))
+              parts.1,
+        )
 
     passing_places : newly_breaks (late_row passing_rule) ex voices p col i ≡ true
         → IsAmong (length p - passing_reach ex) (passing_count passing_rule ex (length p)) i
-    passing_places h =
-        let parts = and_parts (newly_passing ex voices p col i) (reading_of (clash_row passing_rule ex voices) grown i) h
-        in
-        told_places passing_rule parts.0
-        (passing_start ex voices i (earlier grown i) (here grown) (ahead grown) parts.1)
+    passing_places h = let is = passing_there h in told_places passing_rule is.0 is.1
 
     excuse_places : newly_breaks (late_row excuse_rule) ex voices p col i ≡ true
         → IsAmong (length p - passing_reach ex) (passing_count excuse_rule ex (length p)) i
-    excuse_places h =
-        let parts = and_parts (newly_passing ex voices p col i) (reading_of (clash_row excuse_rule ex voices) grown i) h
-        in
-        told_places excuse_rule parts.0
-        (excuse_start ex voices i (earlier grown i) (here grown) (ahead grown) (on.longer.menus i (placed parts.0))
-        parts.1)
+    excuse_places h = let is = excuse_there h in told_places excuse_rule is.0 is.1
+
+-- a quiet column settles no break of theirs
+pub quiet_settles : (n : ℕ) (ex : Exercise) (voices : ℕ) (p : List (List Cell)) (col : List Cell) (i : ℕ)
+    → GoesOn ex p (col ∷ []) → is_told_later n ≡ true → newly_breaks (late_row n) ex voices p col i ≡ true
+    → is_quiet (length p) col ≡ true → ⊥
+quiet_settles n ex voices p col i on =
+    by_rule Stirs (λ told h. let is = passing_there ex voices p col i on h in told_stirs ex voices p col i on passing_rule is.0 is.1)
+    (λ told h. let is = excuse_there ex voices p col i on h in told_stirs ex voices p col i on excuse_rule is.0 is.1)
+    (λ told h quiet. both_ways false refl told) (λ told h quiet. both_ways false refl told)
+    (λ r soon told. absurd (both_ways (is_told_later r) (rw (soon.no_passing, soon.no_excuse) refl) told)) n
+  where
+    Stirs : ℕ → Type 0
+    Stirs r = is_told_later r ≡ true → newly_breaks (late_row r) ex voices p col i ≡ true → is_quiet (length p) col ≡ true → ⊥
 
 -- ---- S20 and S28
 

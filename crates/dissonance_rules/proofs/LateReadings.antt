@@ -3,7 +3,7 @@
 use Rattle.std.specs.Prelude.{◌≡◌, ◌≢◌, ℕ, ◌+◌, ◌-◌, ◌<◌, ◌≤◌, ◌==◌, Bool, true, false, not, ◌&&◌, ◌||◌, nat_le, nat_lt, List, [], ◌∷◌, ◌++◌, IsTrue, Some, drop, take, length, slice_index_or, if◌then◌else◌, refl}
 use Rattle.std.proofs.Common.{ap, sym, ◌∙◌, subst, arith}
 use Rattle.std.proofs.Math.ListN.{get_or-append}
-use Rattle.std.proofs.lemmas.Bool.{and_from, and_right, cond-true, eqb-true, le-leb, le-ltb, lt-leb, lt-ltb, ne_eqb}
+use Rattle.std.proofs.lemmas.Bool.{and_right, cond-true, eqb-true, le-leb, le-ltb, lt-leb, lt-ltb, ne_eqb}
 use Rattle.std.proofs.lemmas.List.{length-append, length-drop, take_all, take_at}
 use Rattle.fux_grid.specs.declared.cell.Cell.{Cell}
 use Rattle.fux_grid.specs.declared.exercise.Exercise.{Exercise}
@@ -186,23 +186,19 @@ module _ (n : ℕ) (ex : Exercise) (p : List (List Cell)) (col : List Cell) (i :
     pub unbroken : false ≡ there → false ≡ Breaks
     unbroken h = sym (as_late ∙ and_right (newly (settled_by (clash_enough n ex voices)) p col i) there (sym h))
 
-    pub broken_at_place : true ≡ there → is_told_later n ≡ false
-        → IsAmong ((rule_row n).first ex (length p)) ((rule_row n).count ex (length p)) i → true ≡ Breaks
-    broken_at_place h other among =
-        let P : RuleRow → Type 0 = λ r. IsAmong (r.first ex (length p)) (r.count ex (length p)) i in
-        sym (as_late ∙ and_from (newly (settled_by (clash_enough n ex voices)) p col i) there
-        (newly_at_place voices other (subst P (row_is n late) among)) (sym h))
+    -- where the newest column settles it there, it tells what stands there
+    pub broken_as : newly (settled_by (clash_enough n ex voices)) p col i ≡ true → there ≡ Breaks
+    broken_as settled = sym (as_late ∙ ap (λ b. b && there) settled)
 
-    pub broken_if_newly : (r : Bool) → true ≡ there → is_told_later n ≡ true
-        → r ≡ newly (settled_by (passing_enough ex voices)) p col i → r ≡ Breaks
-    broken_if_newly r h told newly_is =
-        newly_is ∙ sym (newly-told n ex voices p col i told)
-        ∙ with_true (newly (settled_by (clash_enough n ex voices)) p col i) there (sym h)
-        ∙ sym as_late
-      where
-        with_true : (a b : Bool) → b ≡ true → a ≡ (a && b)
-        with_true true b e = sym e
-        with_true false b e = refl
+    pub unsettled : newly (settled_by (clash_enough n ex voices)) p col i ≡ false → false ≡ Breaks
+    unsettled open_there = sym (as_late ∙ ap (λ b. b && there) open_there)
+
+    pub settled_at_place : is_told_later n ≡ false
+        → IsAmong ((rule_row n).first ex (length p)) ((rule_row n).count ex (length p)) i
+        → newly (settled_by (clash_enough n ex voices)) p col i ≡ true
+    settled_at_place other among =
+        let P : RuleRow → Type 0 = λ r. IsAmong (r.first ex (length p)) (r.count ex (length p)) i in
+        newly_at_place voices other (subst P (row_is n late) among)
 
 -- ---- two voices of a set
 

@@ -1,6 +1,7 @@
 pub mod Apart
 pub mod Book
 pub mod Clashes
+pub mod Clashing
 pub mod Ligatures
 pub mod Mixed
 pub mod Passing

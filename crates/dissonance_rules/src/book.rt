@@ -1,10 +1,11 @@
 //! The crate's rules and tolls by their numbers.
 
-ghost use Rattle.std.specs.Prelude.{⊤};
 ghost use Rattle.rule_law.specs.Rulebooks.{KeepsLaws};
 ghost use Rattle.dissonance_rules.specs.Book as books;
+ghost use Rattle.dissonance_rules.specs.Clashing.{IsClashesOf};
 
 use crate::clashes::{breaks_clash, is_clash_settled};
+use crate::clashing::Clashes;
 use crate::dissonance::Dissonance;
 use crate::late::{is_late, is_told_later, passing_places, settles_passing};
 use crate::rows::{breaks, cost};
@@ -21,15 +22,20 @@ pub fn book_is_lawful()
 
 /// S15, S19, S20, S21, S27 and S28 are late, and no toll is.
 impl RuleCrate for Dissonance {
-    type Part = ();
+    type Part = Clashes;
 
     ghost book = { books.book };
 
-    ghost is_part = { λ ex p part. ⊤ };
+    ghost is_part = { IsClashesOf };
 
-    fn start() {}
+    fn start() -> Clashes {
+        Clashes::NONE
+    }
 
-    fn note(_part: &mut (), _ex: &Exercise, _i: usize, _column: &[Cell]) {}
+    #[inline]
+    fn note(part: &mut Clashes, ex: &Exercise, i: usize, column: &[Cell]) {
+        part.note(ex, i, column);
+    }
 
     #[inline(always)]
     fn has_rule(rule: u8) -> bool {
@@ -71,7 +77,7 @@ impl RuleCrate for Dissonance {
     }
 
     fn breaks_late(
-        _part: &(),
+        part: &Clashes,
         newest: &NewestColumns,
         rule: u8,
         ex: &Exercise,
@@ -81,13 +87,16 @@ impl RuleCrate for Dissonance {
         if place >= newest.len {
             return false;
         }
-        if !breaks_clash(newest, rule, ex, place, voices) {
+        if !is_told_later(rule) {
+            return breaks_clash(newest, rule, ex, place, voices);
+        }
+        if !part.may_break(place) {
             return false;
         }
-        if !is_told_later(rule) {
-            return true;
+        if !settles_passing(newest, ex, voices, place) {
+            return false;
         }
-        settles_passing(newest, ex, voices, place)
+        breaks_clash(newest, rule, ex, place, voices)
     }
 
     #[inline(always)]
@@ -111,7 +120,7 @@ impl RuleCrate for Dissonance {
 
     #[inline(always)]
     fn breaks_at_once(
-        _part: &(),
+        _part: &Clashes,
         rule: u8,
         ex: &Exercise,
         voices: VoiceSet,
@@ -125,7 +134,7 @@ impl RuleCrate for Dissonance {
 
     #[inline(always)]
     fn cost_at_once(
-        _part: &(),
+        _part: &Clashes,
         toll: u8,
         ex: &Exercise,
         i: usize,

@@ -29,10 +29,13 @@ fn is_excused<C: ColumnsAround>(around: &C, ex: &Exercise, i: usize, v: u8) -> b
 
 /// Whether within a bar two voices clash where one of them starts a note, or both do.
 #[inline]
-fn clash_anew(i: usize, now: &[Cell], v: usize, w: usize) -> bool
+pub(crate) fn clash_anew(i: usize, now: &[Cell], v: usize, w: usize) -> bool
     ensures { result ≡ words.clash_anew i now.now v w }
 {
-    !begins_bar(i) && is_clash(now, v, w) && one_starts(now, v, w)
+    if begins_bar(i) || !one_starts(now, v, w) {
+        return false;
+    }
+    is_clash(now, v, w)
 }
 
 /// S27: whether in a mixed exercise two voices clash anew within a bar, and no note that one of

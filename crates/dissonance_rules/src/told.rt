@@ -14,7 +14,7 @@ ghost use Rattle.dissonance_rules.specs.Told.{AreAllTold, AreTold};
 
 use crate::late::passing_places;
 use fux_grid::{Exercise, cell_of, species_of};
-use rule_law::{LatePlaces, NewestColumns, is_free, starts};
+use rule_law::{LatePlaces, NewestColumns, is_free, is_quiet, starts};
 
 /// How many notes after a clash tell what it is, for a voice of a species.
 fn notes_needed(species: u8) -> usize
@@ -77,7 +77,8 @@ fn all_told_until(newest: &NewestColumns, ex: &Exercise, first: usize, end: usiz
 }
 
 /// Those of the places of S15 or S27 at which, as the newest columns tell, the newest one may
-/// settle a break.
+/// settle a break: none where it is quiet. How far back notes tell it is looked for where there are
+/// many places.
 #[inline(always)]
 pub(crate) fn passing_left(newest: &NewestColumns, rule: u8, ex: &Exercise) -> LatePlaces
     requires valid { IsValid ex.now }
@@ -89,11 +90,21 @@ pub(crate) fn passing_left(newest: &NewestColumns, rule: u8, ex: &Exercise) -> L
         + late_count rule ex.now (newest.now.len - 1) }
     ensures left { SettlesNoOther (late_row rule) ex.now newest.now result.first result.count }
 {
-    let places = passing_places(rule, ex, newest.len - 1);
+    let last = newest.len - 1;
+    let places = passing_places(rule, ex, last);
     if places.count == 0 {
         return places;
     }
-    let first = all_told_until(newest, ex, places.first, newest.len - 1);
+    if is_quiet(last, newest.at(last, ex.voices as usize)) {
+        return LatePlaces {
+            first: places.first,
+            count: 0,
+        };
+    }
+    if places.count < 10 {
+        return places;
+    }
+    let first = all_told_until(newest, ex, places.first, last);
     LatePlaces {
         first,
         count: newest.len - first,

@@ -1,13 +1,15 @@
 use Rattle.std.proofs.Common.{◌≡◌, ◌≤◌, ◌+◌, ◌-◌, ◌∷◌, ◌++◌, [], true, false, ap, sym, ◌∙◌, inl, inr, arith, length, drop, take}
 use Rattle.std.proofs.lemmas.Bool.{and_parts, cases_lt}
-use Rattle.std.proofs.lemmas.List.{length-append, take_at}
+use Rattle.std.proofs.lemmas.List.{get_or_push, length-append, take_at}
 use Rattle.fux_grid.specs.Exercises.{species_in}
 use Rattle.rule_law.specs.Growth.{newly}
 use Rattle.rule_law.specs.Places.{reading_of, settled_by}
+use Rattle.rule_law.specs.Quiet.{is_quiet}
 use Rattle.dissonance_rules.specs.Book.{late_count, late_first}
 use Rattle.dissonance_rules.specs.Clashes.{clash_enough, clash_row, passing_enough}
 use Rattle.dissonance_rules.specs.Passing.{has_notes_after}
 use Rattle.dissonance_rules.proofs.BookLaws.{late_within}
+use Rattle.dissonance_rules.proofs.LatePlaces.{quiet_settles}
 use Rattle.dissonance_rules.proofs.LateReadings.{newly-told}
 use Rattle.dissonance_rules.proofs.ToldPlaces.{told_settles}
 use Rattle.dissonance_rules.proofs.told.passing_left.Goals as goal
@@ -19,6 +21,26 @@ returns-then-places-eq0-clause-left c = λ p col newest on voices i among h.
     let counts : c.passing_places-places.result.count ≡ late_count c.args.rule ex (length p) = c.passing_places-places.ensures.count c.requires.told
     ∙ ap (late_count c.args.rule ex) last in
     absurd (omega (arith, among.from, among.to, counts, c.if-places-eq0.true))
+
+pub returns-then-is_quiet-clause-left : goal.returns-then-is_quiet-clause-left
+returns-then-is_quiet-clause-left c = λ p col newest on voices i among h.
+    let size : c.args.newest.now.len ≡ length p + 1 = newest.count ∙ length-append p (col ∷ []) in
+    let last : c.args.newest.now.len - 1 ≡ length p = omega (arith, size) in
+    let cells : c.at.result.now ≡ col = c.at.ensures (p ++ col ∷ []) newest (omega (arith, size, newest.count))
+    ∙ get_or_push p col [] (c.args.newest.now.len - 1) (sym last) in
+    absurd (quiet_settles c.args.rule c.args.ex.now voices p col i on c.requires.told h
+    (sym (ap (λ k. is_quiet k col) last) ∙ sym (ap (is_quiet (c.args.newest.now.len - 1)) cells)
+    ∙ sym c.is_quiet.ensures ∙ c.if-is_quiet.true))
+
+pub returns-then-places-lt10-clause-left : goal.returns-then-places-lt10-clause-left
+returns-then-places-lt10-clause-left c = λ p col newest on voices i among h.
+    let ex = c.args.ex.now in
+    let last : c.args.newest.now.len - 1 ≡ length p = omega (arith, newest.count, length-append p (col ∷ [])) in
+    let starts : c.passing_places-places.result.first ≡ late_first c.args.rule ex (length p) =
+    c.passing_places-places.ensures.first c.requires.told ∙ ap (late_first c.args.rule ex) last in
+    let counts : c.passing_places-places.result.count ≡ late_count c.args.rule ex (length p) = c.passing_places-places.ensures.count c.requires.told
+    ∙ ap (late_count c.args.rule ex) last in
+    record { from = omega (arith, among.from, starts); to = omega (arith, among.to, starts, counts) }
 
 pub returns-clause-left : goal.returns-clause-left
 returns-clause-left c = λ p col newest on voices i among h.

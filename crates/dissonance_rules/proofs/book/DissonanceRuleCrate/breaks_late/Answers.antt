@@ -1,29 +1,39 @@
 use Rattle.std.specs.Prelude.{◌-◌, ◌∷◌, ◌++◌, []}
-use Rattle.std.proofs.Common.{sym, arith}
-use Rattle.dissonance_rules.proofs.LateReadings.{broken_at_place, broken_if_newly, kept_around, unbroken}
+use Rattle.std.proofs.Common.{sym, ◌∙◌, arith}
+use Rattle.dissonance_rules.proofs.LateReadings.{broken_as, kept_around, newly-told, settled_at_place, unbroken, unsettled}
 use Rattle.dissonance_rules.proofs.book.DissonanceRuleCrate.breaks_late.Goals as goal
-
-pub returns-then-not-breaks_clash : goal.returns-then-not-breaks_clash
-returns-then-not-breaks_clash c = λ late p col part newest on among.
-    unbroken c.args.rule c.args.ex.now p col c.args.place on c.args.voices.bits late
-    (c.if-not-breaks_clash.ensures (p ++ col ∷ []) (c.args.place - 3)
-    (kept_around c.args.rule c.args.ex.now p col c.args.place on c.args.newest.now newest late among)
-    (omega arith) (omega (arith, c.if-place-newest.false, newest.count)))
 
 pub returns-then-not-is_told_later : goal.returns-then-not-is_told_later
 returns-then-not-is_told_later c = λ late p col part newest on among.
-    broken_at_place c.args.rule c.args.ex.now p col c.args.place on c.args.voices.bits late
-    (c.if-not-breaks_clash.ensures (p ++ col ∷ []) (c.args.place - 3)
+    c.breaks_clash.ensures (p ++ col ∷ []) (c.args.place - 3)
     (kept_around c.args.rule c.args.ex.now p col c.args.place on c.args.newest.now newest late among)
-    (omega arith) (omega (arith, c.if-place-newest.false, newest.count)))
-    (sym c.if-not-is_told_later.ensures) among
+    (omega arith) (omega (arith, c.if-place-newest.false, newest.count))
+    ∙ broken_as c.args.rule c.args.ex.now p col c.args.place on c.args.voices.bits late
+    (settled_at_place c.args.rule c.args.ex.now p col c.args.place on c.args.voices.bits late
+    (sym c.is_told_later.ensures ∙ c.if-not-is_told_later.true) among)
+
+pub returns-then-not-may_break : goal.returns-then-not-may_break
+returns-then-not-may_break c = λ late p col part newest on among.
+    let is = kept_around c.args.rule c.args.ex.now p col c.args.place on c.args.newest.now newest late among in
+    unbroken c.args.rule c.args.ex.now p col c.args.place on c.args.voices.bits late
+    (sym (c.may_break.ensures c.args.ex.now (p ++ col ∷ []) part
+    (omega (arith, c.if-place-newest.false, newest.count)) (omega (arith, is.near))
+    c.if-not-may_break.true c.args.rule c.args.voices.bits (sym c.is_told_later.ensures ∙ c.if-not-is_told_later.false)))
+
+pub returns-then-not-settles_passing : goal.returns-then-not-settles_passing
+returns-then-not-settles_passing c = λ late p col part newest on among.
+    let is = kept_around c.args.rule c.args.ex.now p col c.args.place on c.args.newest.now newest late among in
+    let told = sym c.is_told_later.ensures ∙ c.if-not-is_told_later.false in
+    unsettled c.args.rule c.args.ex.now p col c.args.place on c.args.voices.bits late
+    (newly-told c.args.rule c.args.ex.now c.args.voices.bits p col c.args.place told
+    ∙ sym (c.settles_passing.ensures p col (c.args.place - 3) is (omega arith)) ∙ c.if-not-settles_passing.true)
 
 pub returns : goal.returns
 returns c = λ late p col part newest on among.
-    let is = kept_around c.args.rule c.args.ex.now p col c.args.place on c.args.newest.now newest late among
-    in
-    broken_if_newly c.args.rule c.args.ex.now p col c.args.place on c.args.voices.bits late
-    c.settles_passing.result
-    (c.if-not-breaks_clash.ensures (p ++ col ∷ []) (c.args.place - 3) is (omega arith)
-    (omega (arith, c.if-place-newest.false, newest.count)))
-    (sym c.if-not-is_told_later.ensures) (c.settles_passing.ensures p col (c.args.place - 3) is (omega arith))
+    let is = kept_around c.args.rule c.args.ex.now p col c.args.place on c.args.newest.now newest late among in
+    let told = sym c.is_told_later.ensures ∙ c.if-not-is_told_later.false in
+    c.breaks_clash-2.ensures (p ++ col ∷ []) (c.args.place - 3) is (omega arith)
+    (omega (arith, c.if-place-newest.false, newest.count))
+    ∙ broken_as c.args.rule c.args.ex.now p col c.args.place on c.args.voices.bits late
+    (newly-told c.args.rule c.args.ex.now c.args.voices.bits p col c.args.place told
+    ∙ sym (c.settles_passing.ensures p col (c.args.place - 3) is (omega arith)) ∙ c.if-not-settles_passing.false)
