@@ -1,3 +1,5 @@
 pub mod ReadingLemmas
 pub mod RunLemmas
 pub mod SignLemmas
+pub mod Beside
+pub mod Told

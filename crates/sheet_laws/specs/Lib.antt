@@ -1,2 +1,4 @@
 pub mod Hearing
 pub mod Reading
+pub mod Boxes
+pub mod Told
