@@ -4,6 +4,8 @@
 #![tactic(auto)]
 
 mod cases;
+mod escapes;
+mod shelf;
 
 use cases::Case;
 use fux_pitch::Memory;
@@ -29,7 +31,7 @@ fn main(rt: HostRuntime) -> io::Result<()> {
             }
             case = known(Case::new(rt.alloc()))?;
         } else {
-            known(case.take(rt.alloc(), line.as_str()))?;
+            known(case.take(&rt, rt.alloc(), line.as_str()))?;
             count = count.saturating_add(u32::from(line.starts_with("case ")));
         }
     }
