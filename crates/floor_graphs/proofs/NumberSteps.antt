@@ -1,12 +1,12 @@
--- A label more of a node (`least_more`), a node more of a graph (`least_push`), and what is checked
--- of least numbers (`checked_from_least`).
+-- A label more of a node (`least_more`), labels without edges (`none_below`, `least_over`), a node
+-- more of a graph (`least_push`), and what is checked of least numbers (`checked_from_least`).
 use Rattle.std.proofs.Common.{◌≡◌, ℕ, ◌+◌, ◌*◌, ◌^◌, ◌<◌, ◌≤◌, ◌⊎◌, inl, inr, ⊎_elim, Bool, true, false, List, [], ◌∷◌, ◌++◌, length, Option, Some, None, IsSomeAnd, option_map, min, refl, sym, ap, subst, ◌∙◌, arith, length-append}
 use Rattle.std.specs.Prelude.{IfSome}
 use Rattle.std.proofs.Math.ListN.{get_or-append}
 use Rattle.std.proofs.lemmas.List.{get_or_past, get_or_push}
 use Rattle.std.proofs.lemmas.Bool.{cases_lt}
 use Rattle.floor_graphs.specs.Graphs.{AreChecked}
-use Rattle.floor_graphs.specs.Numbers.{Step, LeadBack, IsEndBelow, is_edge_by, number_in, sum_behind, lesser_of, lesser_low-first, lesser_low-second, IsLeastBelow, IsNumber, AreLeast, AreSmall}
+use Rattle.floor_graphs.specs.Numbers.{Step, LeadBack, AreSpanned, IsEndBelow, is_edge_by, number_in, sum_behind, lesser_of, lesser_low-first, lesser_low-second, IsLeastBelow, IsNumber, AreLeast, AreSmall}
 
 -- ---- the lesser of two sums
 
@@ -47,6 +47,39 @@ least_more sum bound own next more h next_is more_is = record {
       (λ first. let way = h.reached least first in (way.0, omega (arith, way.1), way.2))
       (λ second. (bound, omega arith, sym next_is ∙ second))
       (lesser_reached own next least (sym more_is ∙ is));
+}
+
+-- ---- labels without edges
+
+-- there is an edge where there is a sum behind it
+edge_behind : (number : ℕ → Option ℕ) (edge : Option Step) (x : ℕ) → sum_behind number edge ≡ Some x
+    → (step : Step) × (edge ≡ Some step)
+edge_behind number None x h = cc
+edge_behind number (Some step) x h = (step, refl)
+
+-- labels below all that have edges have no sums
+pub none_below : (number : ℕ → Option ℕ) (edge : ℕ → Option Step) (low high : ℕ) → AreSpanned edge low high
+    → IsLeastBelow (λ label. sum_behind number (edge label)) low None
+none_below number edge low high spanned = record {
+  low = λ label x within is.
+      let its = edge_behind number (edge label) x is in
+      absurd (omega (arith, within, (spanned label its.0 its.1).0));
+  reached = λ least is. cc;
+}
+
+-- labels beyond all that have edges change nothing
+pub least_over : (number : ℕ → Option ℕ) (edge : ℕ → Option Step) (low high bound width : ℕ) (own : Option ℕ)
+    → AreSpanned edge low high → high ≤ bound → high ≤ width
+    → IsLeastBelow (λ label. sum_behind number (edge label)) bound own
+    → IsLeastBelow (λ label. sum_behind number (edge label)) width own
+least_over number edge low high bound width own spanned past room h = record {
+  low = λ label x within is.
+      let its = edge_behind number (edge label) x is in
+      h.low label x (omega (arith, past, (spanned label its.0 its.1).1)) is;
+  reached = λ least is.
+      let way = h.reached least is in
+      let its = edge_behind number (edge way.0) least way.2 in
+      (way.0, omega (arith, room, (spanned way.0 its.0 its.1).1), way.2);
 }
 
 -- ---- a node more

@@ -12,6 +12,10 @@ LeadBack edge width nodes =
     (node label : ℕ) (step : Step) → edge node label ≡ Some step
     → (node < nodes) × (label < width node) × (step.0 < node)
 
+-- labels that have an edge are no lower than one label, and below another
+abbrev pub AreSpanned : (ℕ → Option Step) → ℕ → ℕ → Type 0
+AreSpanned edge low high = (label : ℕ) (step : Step) → edge label ≡ Some step → (low ≤ label) × (label < high)
+
 -- an edge leads from a node to another and costs so much
 abbrev pub is_edge_by : (ℕ → ℕ → Option Step) → ℕ → ℕ → ℕ → Type 0
 is_edge_by edge from to cost = (label : ℕ) × (edge from label ≡ Some (to, cost))

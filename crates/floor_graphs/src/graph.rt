@@ -1,6 +1,6 @@
 //! Graphs, and the least sums from their nodes to their ends.
 ghost use Rattle.std.specs.Prelude.{◌≡◌, ◌<◌, ◌≤◌, ◌*◌, ◌^◌, ℕ, Bool, Option, Some, IfOk, IfSome, length, true};
-ghost use Rattle.floor_graphs.specs.Numbers.{Step, LeadBack, AreLeast, AreSmall, IsNumber, IsEndBelow, is_edge_by, lesser_of, number_in, sum_behind};
+ghost use Rattle.floor_graphs.specs.Numbers.{Step, LeadBack, AreLeast, AreSmall, AreSpanned, IsNumber, IsEndBelow, is_edge_by, lesser_of, number_in, sum_behind};
 ghost use Rattle.floor_graphs.specs.Graphs.{AreChecked};
 
 use fux_pitch::Memory;
@@ -31,10 +31,11 @@ pub trait Graph {
         requires { node < nodes self.now }
         ensures { result ≡ ends_at self.now node };
 
-    /// How many labels the edges of a node have.
-    fn labels(&self, node: u32) -> usize
+    /// The labels of a node that may have edges: from the first of these on, up to the second.
+    fn span(&self, node: u32) -> (usize, usize)
         requires { node < nodes self.now }
-        ensures { result ≡ width self.now node };
+        ensures within { result.1 ≤ width self.now node }
+        ensures edges { AreSpanned (edge_at self.now node) result.0 result.1 };
 
     /// The edge of a node under a label: the node that it leads to, and what it costs.
     fn edge(&self, node: u32, label: usize) -> Option<(u32, u32)>
@@ -84,8 +85,9 @@ fn number_of<G: Graph>(graph: &G, numbers: &[Option<u64>], node: u32) -> Option<
     if graph.is_end(node) {
         return Some(0);
     }
+    let (low, high) = graph.span(node);
     let mut least = None;
-    for label in 0..graph.labels(node) {
+    for label in low..high {
         least = lesser(least, sum_by(graph, numbers, node, label));
     }
     least

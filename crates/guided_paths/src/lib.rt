@@ -49,8 +49,8 @@ impl<'a> Graph for Rows<'a> {
         node == 0
     }
 
-    fn labels(&self, _node: u32) -> usize {
-        COLUMNS
+    fn span(&self, _node: u32) -> (usize, usize) {
+        (0, COLUMNS)
     }
 
     fn edge(&self, node: u32, label: usize) -> Option<(u32, u32)> {

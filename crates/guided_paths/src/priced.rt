@@ -81,6 +81,10 @@ impl<'a> Pricing for PricedGrid<'a> {
         Some((next, u32::from(cost)))
     }
 
+    fn may_step(&self, _depth: usize, _reach: &Reach, _column: usize) -> bool {
+        true
+    }
+
     fn is_same(&self, one: &Reach, other: &Reach) -> bool {
         if one.low != other.low || one.high != other.high {
             return false;

@@ -1,6 +1,6 @@
 -- The spot of a path keeps what is kept behind the path (`kept_at`), and a path that has none isn't
 -- one of steps (`none_kept`). So the sum of a place is that of its path (`are_exact`).
-use Rattle.std.proofs.Common.{◌≡◌, ℕ, zero, suc, ◌+◌, ◌-◌, ◌*◌, ◌<◌, ◌≤◌, nat_lt, Bool, true, false, List, [], ◌∷◌, length, Option, Some, None, option_and_then, option_map, refl, sym, ap, ap₂, subst, ◌∙◌, arith, slice_get, slice_index_or, ⊎_elim, if◌then◌else◌}
+use Rattle.std.proofs.Common.{◌≡◌, ℕ, zero, suc, ◌+◌, ◌-◌, ◌*◌, ◌<◌, ◌≤◌, nat_lt, Bool, true, false, List, [], ◌∷◌, length, Option, Some, None, option_and_then, option_map, refl, sym, ap, ap₂, subst, ◌∙◌, arith, slice_get, ⊎_elim, if◌then◌else◌}
 use Rattle.std.proofs.lemmas.Bool.{cases_lt, lt-ltb}
 use Rattle.std.proofs.lemmas.Bool.Decides.{nat_tests}
 use Rattle.floor_graphs.specs.Cases.{least_below}
@@ -14,7 +14,7 @@ use Rattle.priced_paths.specs.CaseGraphs.{Case, case_edge, case_ends, case_width
 use Rattle.priced_paths.specs.LeadBacks.{label_within}
 use Rattle.priced_paths.specs.Places.{IsPlaceOf, least_at, numbers_of, standing, standing_in, standing_of, sum_by}
 use Rattle.priced_paths.specs.Tolls.{charged_to, has_reached, sum_of}
-use Rattle.priced_paths.specs.Webs.{IsEdgeOf, IsWeb, LeadsOn, edge_in, labels_or, spot_at, spot_from}
+use Rattle.priced_paths.specs.Webs.{IsEdgeOf, IsWeb, LeadsOn, edge_in, labels_or, slot_edge, spot_at, spot_from}
 use Rattle.priced_paths.proofs.Spots.{edge-within}
 use Rattle.path_sums.specs.LeastRests.{Breadth, Steps, kept_behind, least_rest, least_sum, rest_of_path, step_in, sum_in_case}
 use Rattle.path_sums.specs.Stands.{AreExact}
@@ -42,7 +42,7 @@ module _ {K : Type 0} {start : K} {height : ℕ} {breadth : Breadth} {step : Ste
       let has = (h.spots at spot is).above above in
       let test : nat_lt k (breadth spot.depth) ≡ true =
       lt-ltb k (breadth spot.depth) (omega (arith, within, has.all)) in
-      by above test (slice_index_or web.edges.items (spot.first + k) None) (step spot.depth spot.kept k)
+      by above test (slot_edge web.edges.items spot k) (step spot.depth spot.kept k)
       (sym (edge-within web at k spot is within) ∙ e) refl (has.each k within)
     where
       by : spot.depth < height → nat_lt k (breadth spot.depth) ≡ true → (own : Option Edge) (s : Option (K × ℕ))

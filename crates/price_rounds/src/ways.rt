@@ -145,8 +145,9 @@ pub fn ways_of(
         if spot.depth < ways.depth {
             ways.end = ways.first.len();
         }
-        for label in 0..spot.labels {
-            if let Some(Some(edge)) = web.edges.get(spot.first.wrapping_add(label)) {
+        for label in spot.low..spot.high {
+            let slot = spot.first.wrapping_add(label.wrapping_sub(spot.low));
+            if let Some(Some(edge)) = web.edges.get(slot) {
                 ways.steps.push(Step {
                     choice: columns.take(&mut ways.notes, spot.depth, label)?,
                     to: edge.to,

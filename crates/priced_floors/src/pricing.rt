@@ -218,6 +218,12 @@ impl<'a> Pricing for PricedSpace<'a> {
         self.led_on(depth, kept, label, prev, next)
     }
 
+    fn may_step(&self, depth: usize, kept: &Kept, label: usize) -> bool {
+        let prev = self.column_kept(depth, kept);
+        let next = self.space.tables().column(depth, label);
+        follows(prev, next)
+    }
+
     fn is_same(&self, one: &Kept, other: &Kept) -> bool {
         is_same_number(one.column, other.column) && one.ends.is_same(&other.ends)
     }

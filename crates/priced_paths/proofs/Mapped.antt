@@ -1,6 +1,6 @@
 -- On the way to a leaf each step is an edge of the leaf's case (`case_is_mapped`), so the numbers
 -- of the cases give floors (`priced_floors`).
-use Rattle.std.proofs.Common.{◌≡◌, ℕ, ◌+◌, ◌-◌, ◌*◌, ◌<◌, ◌≤◌, ◌||◌, ◌&&◌, nat_lt, nat_le, List, [], ◌∷◌, ◌++◌, length, Option, Some, None, option_map, option_and_then, Bool, true, false, refl, sym, ap, ap₂, subst, ◌∙◌, arith, append_assoc, append-nil, length-append, slice_get, slice_index_or, if◌then◌else◌}
+use Rattle.std.proofs.Common.{◌≡◌, ℕ, ◌+◌, ◌-◌, ◌*◌, ◌<◌, ◌≤◌, ◌||◌, ◌&&◌, nat_lt, nat_le, List, [], ◌∷◌, ◌++◌, length, Option, Some, None, option_map, option_and_then, Bool, true, false, refl, sym, ap, ap₂, subst, ◌∙◌, arith, append_assoc, append-nil, length-append, slice_get, if◌then◌else◌}
 use Rattle.std.proofs.Math.Nat.{mul-add, mul-le-mul_left}
 use Rattle.std.proofs.lemmas.Bool.{and_from, and_parts, eq-eqb}
 use Rattle.std.proofs.lemmas.Option.{slice_get_within}
@@ -14,7 +14,7 @@ use Rattle.priced_paths.specs.declared.web.Spot.{Spot}
 use Rattle.priced_paths.specs.declared.web.Web.{Web}
 use Rattle.priced_paths.specs.Tolls.{sum_of, charged_to, has_reached}
 use Rattle.priced_paths.specs.Pricings.{IsOfCase, IsPriced, IsPricedStep}
-use Rattle.priced_paths.specs.Webs.{IsWeb, depth_in, edge_in, spot_at}
+use Rattle.priced_paths.specs.Webs.{IsWeb, depth_in, edge_in, slot_edge, spot_at}
 use Rattle.priced_paths.specs.CaseGraphs.{Case, case_edge, case_ends, case_of, charged_edge, edge_by, is_reached, node_at, nodes_of, spot_of}
 use Rattle.priced_paths.specs.Places.{AreNumbersOf, case_sum, charge_or, node_in, node_or, numbers_of, paid_in, priced_sum, standing}
 use Rattle.priced_paths.proofs.TollSteps.{charged-append, charged_start, reached-append}
@@ -142,7 +142,7 @@ module _ {K : Type 0} {live : List ℕ → Option ℕ} {height : ℕ} {kept : Li
       let within : child < spot.labels = omega (arith, has.all, wide, its.within) in
       let steps : step spot.depth spot.kept child ≡ Some (kept (path ++ child ∷ []), its.cost) =
       ap₂ (λ d k. step d k child) here.deep here.keeps ∙ its.is_step in
-      let found = edge_of_step web at spot.depth (slice_index_or web.edges.items (spot.first + child) None)
+      let found = edge_of_step web at spot.depth (slot_edge web.edges.items spot child)
       (step spot.depth spot.kept child) (kept (path ++ child ∷ []), its.cost) steps (has.each child within) in
       let is_edge = edge-within web at child spot here.is_spot within ∙ found.is in
       record {

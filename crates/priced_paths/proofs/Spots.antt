@@ -1,13 +1,13 @@
 -- Where a path leads with a step more (`spot-append`), what a web's edges are (`edge_parts`), and
 -- that a web is sound (`sound_from_web`).
-use Rattle.std.proofs.Common.{◌≡◌, ℕ, ◌+◌, ◌<◌, nat_lt, List, [], ◌∷◌, ◌++◌, Option, Some, None, option_and_then, Bool, true, false, refl, sym, ap, subst, ◌∙◌, arith, slice_get, slice_index_or, if◌then◌else◌, ⊎_elim}
+use Rattle.std.proofs.Common.{◌≡◌, ℕ, ◌+◌, ◌<◌, nat_lt, List, [], ◌∷◌, ◌++◌, Option, Some, None, option_and_then, Bool, true, false, refl, sym, ap, subst, ◌∙◌, arith, slice_get, if◌then◌else◌, ⊎_elim}
 use Rattle.std.proofs.lemmas.Option.{slice_get_within}
 use Rattle.std.proofs.lemmas.Bool.{cases_lt}
 use Rattle.std.proofs.lemmas.Bool.Decides.{nat_tests}
 use Rattle.priced_paths.specs.declared.web.Edge.{Edge}
 use Rattle.priced_paths.specs.declared.web.Spot.{Spot}
 use Rattle.priced_paths.specs.declared.web.Web.{Web}
-use Rattle.priced_paths.specs.Webs.{edge_of, edge_in, spot_from, spot_at, depth_or, depth_in, LeadsOn, IsEdgeOf, HasSteps, IsWeb, LeadsLater, IsSound}
+use Rattle.priced_paths.specs.Webs.{edge_of, edge_in, slot_edge, spot_from, spot_at, depth_or, depth_in, LeadsOn, IsEdgeOf, HasSteps, IsWeb, LeadsLater, IsSound}
 
 -- where an edge leads
 abbrev pub end_of : Option Edge → Option ℕ
@@ -51,7 +51,7 @@ pub record HasEdge {K : Type 0} (web : Web K) (at label : ℕ) (edge : Edge) : T
   pub spot : Spot K
   pub is_spot : slice_get web.spots.items at ≡ Some spot
   pub is_label : label < spot.labels
-  pub is_edge : slice_index_or web.edges.items (spot.first + label) None ≡ Some edge
+  pub is_edge : slot_edge web.edges.items spot label ≡ Some edge
 
 pub edge_parts : {K : Type 0} (web : Web K) (at label : ℕ) (edge : Edge) → edge_in web at label ≡ Some edge
     → HasEdge web at label edge
@@ -61,8 +61,7 @@ edge_parts {K} web at label edge h = of (slice_get web.spots.items at) refl h
     below spot e = grind (arith, nat_tests)
 
     under : (spot : Spot K) → slice_get web.spots.items at ≡ Some spot → (b : Bool) → nat_lt label spot.labels ≡ b
-        → (if b then slice_index_or web.edges.items (spot.first + label) None else None) ≡ Some edge
-        → HasEdge web at label edge
+        → (if b then slot_edge web.edges.items spot label else None) ≡ Some edge → HasEdge web at label edge
     under spot is true e h = record { spot = spot; is_spot = is; is_label = below spot e; is_edge = h }
     under spot is false e h = cc
 
@@ -73,11 +72,11 @@ edge_parts {K} web at label edge h = of (slice_get web.spots.items at) refl h
 
 -- the edge of a spot under one of its labels
 pub edge-within : {K : Type 0} (web : Web K) (at label : ℕ) (spot : Spot K) → slice_get web.spots.items at ≡ Some spot
-    → label < spot.labels → edge_in web at label ≡ slice_index_or web.edges.items (spot.first + label) None
+    → label < spot.labels → edge_in web at label ≡ slot_edge web.edges.items spot label
 edge-within web at label spot is within =
     let test : nat_lt label spot.labels ≡ true = grind (arith, nat_tests) in
     ap (option_and_then (edge_of web.edges.items label)) is
-    ∙ ap (λ b. if b then slice_index_or web.edges.items (spot.first + label) None else None) test
+    ∙ ap (λ b. if b then slot_edge web.edges.items spot label else None) test
 
 -- ---- a web
 
@@ -128,7 +127,7 @@ module _ {K : Type 0} {start : K} {height : ℕ} {breadth : ℕ → ℕ} {step :
       let parts = edge_parts web at label edge e in
       let spot = parts.spot in
       let above = above_leaves at spot parts.is_spot (omega (arith, parts.is_label)) in
-      let its = step_of_edge web at spot.depth edge (slice_index_or web.edges.items (spot.first + label) None)
+      let its = step_of_edge web at spot.depth edge (slot_edge web.edges.items spot label)
       (step spot.depth spot.kept label) parts.is_edge (above.1.each label parts.is_label) in
       let depth : depth_in web at ≡ spot.depth = depth-of web at spot parts.is_spot in
       record {
@@ -145,6 +144,6 @@ module _ {K : Type 0} {start : K} {height : ℕ} {breadth : ℕ → ℕ} {step :
     few = h.few;
     some = omega (arith, slice_get_within web.spots.items 0 h.root h.is_root);
     root = depth-of web 0 h.root h.is_root ∙ h.first;
-    inside = λ at spot is some. (above_leaves at spot is some).1.inside;
+    inside = λ at spot is. (h.spots at spot is).slots;
     edges = later;
   }

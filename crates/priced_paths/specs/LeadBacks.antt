@@ -1,12 +1,13 @@
--- The edges of a case lead back (`case_leads_back`).
-use Rattle.std.specs.Prelude.{◌≡◌, ℕ, ◌+◌, ◌-◌, ◌*◌, ◌<◌, ◌≤◌, ◌||◌, nat_lt, Bool, true, false, Option, Some, None, option_and_then, length, slice_get, if◌then◌else◌, slice_index_or}
-use Rattle.std.proofs.Common.{refl, sym, ap, arith}
+-- The edges of a case lead back (`case_leads_back`), and stand in the slots of their spots
+-- (`case_spanned`).
+use Rattle.std.specs.Prelude.{◌≡◌, ℕ, ◌+◌, ◌-◌, ◌*◌, ◌<◌, ◌≤◌, ◌||◌, nat_lt, nat_le, Bool, true, false, Option, Some, None, option_and_then, length, slice_get, if◌then◌else◌, slice_index_or}
+use Rattle.std.proofs.Common.{refl, sym, ap, ◌∙◌, arith}
 use Rattle.std.proofs.lemmas.Bool.Decides.{nat_tests}
-use Rattle.floor_graphs.specs.Numbers.{LeadBack, Step}
+use Rattle.floor_graphs.specs.Numbers.{AreSpanned, LeadBack, Step}
 use Rattle.priced_paths.specs.declared.web.Edge.{Edge}
 use Rattle.priced_paths.specs.declared.web.Spot.{Spot}
 use Rattle.priced_paths.specs.declared.web.Web.{Web}
-use Rattle.priced_paths.specs.Webs.{edge_of, edge_in, labels_or, labels_in, depth_in, IsSound}
+use Rattle.priced_paths.specs.Webs.{edge_of, edge_in, slot_edge, labels_or, labels_in, depth_in, IsSound}
 use Rattle.priced_paths.specs.CaseGraphs.{Case, node_at, spot_of, is_reached, charged_edge, edge_by, case_edge, case_width, nodes_of}
 
 -- a later spot has an earlier node
@@ -36,7 +37,7 @@ pub label_within : {K : Type 0} (web : Web K) (at label : ℕ) (edge : Edge) →
 label_within {K} web at label edge h = of (slice_get web.spots.items at) h
   where
     under : (spot : Spot K) (b : Bool) → nat_lt label spot.labels ≡ b
-        → (if b then slice_index_or web.edges.items (spot.first + label) None else None) ≡ Some edge
+        → (if b then slot_edge web.edges.items spot label else None) ≡ Some edge
         → label < spot.labels
     under spot true e h = grind (arith, nat_tests)
     under spot false e h = cc
@@ -44,6 +45,25 @@ label_within {K} web at label edge h = of (slice_get web.spots.items at) h
     of : (o : Option (Spot K)) → option_and_then (edge_of web.edges.items label) o ≡ Some edge → label < labels_or o
     of None h = cc
     of (Some spot) h = under spot (nat_lt label spot.labels) refl h
+
+-- and stands in one of its slots
+pub label_spanned : {K : Type 0} (web : Web K) (at label : ℕ) (edge : Edge) (spot : Spot K)
+    → slice_get web.spots.items at ≡ Some spot → edge_in web at label ≡ Some edge
+    → (spot.low ≤ label) × (label < spot.high)
+label_spanned web at label edge spot is h =
+    under (nat_lt label spot.labels) (sym (ap (option_and_then (edge_of web.edges.items label)) is) ∙ h)
+  where
+    slotted : (b c : Bool) → nat_lt label spot.low ≡ b → nat_le spot.high label ≡ c
+        → (if b || c then None else slice_index_or web.edges.items (spot.first + (label - spot.low)) None) ≡ Some edge
+        → (spot.low ≤ label) × (label < spot.high)
+    slotted true c e f h = cc
+    slotted false true e f h = cc
+    slotted false false e f h = (grind (arith, nat_tests), grind (arith, nat_tests))
+
+    under : (b : Bool) → (if b then slot_edge web.edges.items spot label else None) ≡ Some edge
+        → (spot.low ≤ label) × (label < spot.high)
+    under true h = slotted (nat_lt label spot.low) (nat_le spot.high label) refl refl h
+    under false h = cc
 
 -- what a charged edge was made of
 pub record IsCharged (count scale : ℕ) (reached : Bool) (its : Option Edge) (charge : Option ℕ) (step : Step) : Type 0 where
@@ -99,3 +119,22 @@ case_leads_back web case sound node label step h = guarded (nat_lt node (nodes_o
           label_within web at label parts.edge parts.is_edge,
           omega (arith, parts.to, before),
         )
+
+pub case_spanned : {K : Type 0} (web : Web K) (case : Case) (node : ℕ) (spot : Spot K)
+    → slice_get web.spots.items (spot_of (length web.spots.items) node) ≡ Some spot
+    → AreSpanned (case_edge web case node) spot.low spot.high
+case_spanned web case node spot is label step h = guarded (nat_lt node (nodes_of web)) h
+  where
+    guarded : (b : Bool)
+        → (if b
+        then edge_by web case (depth_in web (spot_of (length web.spots.items) node)) (spot_of (length web.spots.items) node) (is_reached (length web.spots.items) node) label
+        else None) ≡ Some step
+        → (spot.low ≤ label) × (label < spot.high)
+    guarded false h = cc
+    guarded true h =
+        let at = spot_of (length web.spots.items) node in
+        let depth = depth_in web at in
+        let own = is_reached (length web.spots.items) node in
+        let parts = charged_parts (length web.spots.items) case.rate.scale (own || case.reaches depth label)
+        (edge_in web at label) (case.toll depth label) step h in
+        label_spanned web at label parts.edge spot is parts.is_edge

@@ -1,13 +1,19 @@
 -- What a web is, and where paths lead in it.
-use Rattle.std.specs.Prelude.{◌≡◌, ℕ, ◌+◌, ◌<◌, ◌≤◌, nat_lt, [], ◌∷◌, List, Option, Some, None, option_and_then, length, min, slice_get, slice_index_or, if◌then◌else◌}
+use Rattle.std.specs.Prelude.{◌≡◌, ℕ, ◌+◌, ◌<◌, ◌≤◌, nat_lt, nat_le, ◌-◌, ◌||◌, [], ◌∷◌, List, Option, Some, None, option_and_then, length, min, slice_get, slice_index_or, if◌then◌else◌}
 use Rattle.priced_paths.specs.declared.web.Edge.{Edge}
 use Rattle.priced_paths.specs.declared.web.Spot.{Spot}
 use Rattle.priced_paths.specs.declared.web.Web.{Web}
 use Rattle.priced_paths.specs.declared.web.TheConstants.{MOST_COST, MOST_SPOTS}
 
+-- the edge in a spot's slot for a label; none where it has no slot for it
+abbrev pub slot_edge : {K : Type 0} → List (Option Edge) → Spot K → ℕ → Option Edge
+slot_edge edges spot label =
+    if nat_lt label spot.low || nat_le spot.high label then None
+    else slice_index_or edges (spot.first + (label - spot.low)) None
+
 -- a spot's edge under a label
 abbrev pub edge_of : {K : Type 0} → List (Option Edge) → ℕ → Spot K → Option Edge
-edge_of edges label spot = if nat_lt label spot.labels then slice_index_or edges (spot.first + label) None else None
+edge_of edges label spot = if nat_lt label spot.labels then slot_edge edges spot label else None
 
 -- the edge of the spot of this number
 abbrev pub edge_in : {K : Type 0} → Web K → ℕ → ℕ → Option Edge
@@ -38,11 +44,15 @@ labels_or (Some spot) = spot.labels
 abbrev pub labels_in : {K : Type 0} → Web K → ℕ → ℕ
 labels_in web at = labels_or (slice_get web.spots.items at)
 
--- the edges of a spot stand in the list of all
+-- a spot's slots are for some of its labels, and stand in the list of all edges
+pub record HasSlots {K : Type 0} (edges : List (Option Edge)) (spot : Spot K) : Type 0 where
+  pub order : spot.low ≤ spot.high
+  pub within : spot.high ≤ spot.labels
+  pub inside : spot.first + (spot.high - spot.low) ≤ length edges
+
+-- so are those of the spot of this number
 abbrev pub IsInside : {K : Type 0} → Web K → ℕ → Type 0
-IsInside {K} web at =
-    (spot : Spot K) → slice_get web.spots.items at ≡ Some spot → 0 < spot.labels
-    → spot.first + spot.labels ≤ length web.edges.items
+IsInside {K} web at = (spot : Spot K) → slice_get web.spots.items at ≡ Some spot → HasSlots web.edges.items spot
 
 -- the edge leads to a later spot, one deeper, at which this is kept, and costs this, or the most that
 -- an edge may where that is less
@@ -65,14 +75,13 @@ IsEdgeOf web at depth (Some edge) (Some step) = LeadsOn web at depth step.0 step
 pub record HasSteps {K : Type 0} (breadth : ℕ → ℕ) (step : ℕ → K → ℕ → Option (K × ℕ)) (web : Web K) (at : ℕ)
     (spot : Spot K) : Type 0 where
   pub all : spot.labels ≡ breadth spot.depth
-  pub inside : spot.first + spot.labels ≤ length web.edges.items
   pub each : (label : ℕ) → label < spot.labels
-      → IsEdgeOf web at spot.depth (slice_index_or web.edges.items (spot.first + label) None)
-      (step spot.depth spot.kept label)
+      → IsEdgeOf web at spot.depth (slot_edge web.edges.items spot label) (step spot.depth spot.kept label)
 
--- a spot has the edges of its steps, and none at the leaves
+-- a spot has slots, with the edges of its steps, and no labels at the leaves
 pub record IsSpotOf {K : Type 0} (height : ℕ) (breadth : ℕ → ℕ) (step : ℕ → K → ℕ → Option (K × ℕ)) (web : Web K)
     (at : ℕ) (spot : Spot K) : Type 0 where
+  pub slots : HasSlots web.edges.items spot
   pub above : spot.depth < height → HasSteps breadth step web at spot
   pub ends : height ≤ spot.depth → spot.labels ≡ 0
 

@@ -7,8 +7,12 @@ use fux_pitch::Memory;
 use std::alloc::Global;
 use tree_search::Space;
 
-/// How many edges a web may have.
+/// How many slots a web may have.
 const MOST_EDGES: usize = 6_000_000;
+
+/// How many labels are tried for each slot that there is room for. Most of them make no step, which
+/// is soon told.
+const LABELS_OF_A_SLOT: usize = 8;
 
 /// How many seats there are in which spots are looked up.
 const SEATS: usize = 65_536;
@@ -17,11 +21,12 @@ const SEATS: usize = 65_536;
 const TRIES: usize = 32;
 
 /// A web in the making, with a seat for each spot of greatest depth, unless too many seats were
-/// taken.
+/// taken; and how many labels were tried.
 #[derive(Drop)]
 struct Weaver<K: Copy> {
     web: Web<K>,
     seats: Vec<u32>,
+    tried: usize,
 }
 
 /// Seats that are free: they have the root, which is never looked up.
@@ -63,10 +68,42 @@ fn spot_for<P: Pricing>(
     weaver.web.spots.push(Spot {
         depth,
         kept,
-        first: 0,
         labels: 0,
+        low: 0,
+        high: 0,
+        first: 0,
     })?;
     Ok(Some(count as u32))
+}
+
+/// The slots of a spot in the making: from the first label that makes a step on, up to the last.
+#[derive(Clone, Copy)]
+struct Slots {
+    low: usize,
+    high: usize,
+    first: usize,
+}
+
+impl Slots {
+    /// Takes in the edge of a label beyond all before. Labels between that make no step have empty
+    /// slots.
+    fn take(
+        &mut self,
+        edges: &mut Vec<Option<Edge>>,
+        label: usize,
+        edge: Edge,
+    ) -> Result<(), Memory> {
+        if self.high == 0 {
+            self.low = label;
+        } else {
+            for _empty in self.high..label {
+                edges.push(None)?;
+            }
+        }
+        self.high = label.saturating_add(1);
+        edges.push(Some(edge))?;
+        Ok(())
+    }
 }
 
 /// Adds the edges of a spot. It answers whether there was room for them.
@@ -82,66 +119,85 @@ fn add_edges<P: Pricing>(
     requires short { depth < 192 }
 {
     let labels = pricing.labels(depth);
-    let first = weaver.web.edges.len();
-    let most = most.min(MOST_EDGES);
-    if labels > most || first > most - labels {
-        return Ok(false);
-    }
-    if let Some(spot) = weaver.web.spots.get_mut(at) {
-        spot.first = first;
-        spot.labels = labels;
-    }
+    weaver.tried = weaver.tried.saturating_add(labels);
+    let mut slots = Slots {
+        low: 0,
+        high: 0,
+        first: weaver.web.edges.len(),
+    };
     for label in 0..labels {
-        let mut edge = None;
+        if !pricing.may_step(depth, &kept, label) {
+            continue;
+        }
         if let Some((next, cost)) = pricing.step(depth, &kept, label) {
             let Some(to) = spot_for(pricing, weaver, depth + 1, next)? else {
                 return Ok(false);
             };
-            edge = Some(Edge {
-                to,
-                cost: cost.min(MOST_COST),
-            });
+            let cost = cost.min(MOST_COST);
+            slots.take(&mut weaver.web.edges, label, Edge { to, cost })?;
         }
-        weaver.web.edges.push(edge)?;
     }
-    Ok(true)
+    if let Some(spot) = weaver.web.spots.get_mut(at) {
+        spot.labels = labels;
+        spot.low = slots.low;
+        spot.high = slots.high;
+        spot.first = slots.first;
+    }
+    Ok(weaver.web.edges.len() <= most)
+}
+
+/// How many depths a web may be ahead of what it may come to in the end.
+const DEPTHS_AHEAD: usize = 16;
+
+/// Whether a web that has come to a depth will be made of too many labels, if it goes on as it
+/// began.
+fn is_too_wide(tried: usize, depth: usize, height: usize, most: usize) -> bool {
+    let whole = LABELS_OF_A_SLOT.saturating_mul(most);
+    let part = (whole / height.max(1)).saturating_mul(depth.saturating_add(DEPTHS_AHEAD));
+    tried > part
 }
 
 /// A web of what is kept from the start on, each depth after the one before, unless it is too big
-/// or would have more edges than these.
+/// or would have more slots than these.
 pub fn weave<P: Pricing>(
     alloc: Global,
     pricing: &P,
     most: usize,
 ) -> Result<Option<Web<P::Kept>>, Memory> {
+    let most = most.min(MOST_EDGES);
     let mut weaver = Weaver {
         web: Web {
             spots: Vec::new(alloc),
             edges: Vec::new(alloc),
         },
         seats: free_seats(alloc)?,
+        tried: 0,
     };
     weaver.web.spots.push(Spot {
         depth: 0,
         kept: pricing.start(),
-        first: 0,
         labels: 0,
+        low: 0,
+        high: 0,
+        first: 0,
     })?;
     let height = pricing.space().depth();
     for at in 0..MOST_SPOTS {
         let Some(spot) = weaver.web.spots.get(at) else {
             break;
         };
-        let Spot {
-            depth,
-            kept,
-            first: _,
-            labels: _,
-        } = *spot;
+        let (depth, kept) = (spot.depth, spot.kept);
         if depth < height && !add_edges(pricing, &mut weaver, at, depth, kept, most)? {
             return Ok(None);
         }
+        if is_too_wide(weaver.tried, depth, height, most) {
+            return Ok(None);
+        }
     }
-    let Weaver { web, seats: _ } = weaver;
+    let Weaver {
+        web,
+        seats: _,
+        tried: _,
+    } = weaver;
     Ok(Some(web))
 }

@@ -120,9 +120,10 @@ impl<'a, P: Pricing> Graph for CaseGraph<'a, P> {
         stop.reached && self.web.depth(stop.at) == self.height
     }
 
-    fn labels(&self, node: u32) -> usize {
+    fn span(&self, node: u32) -> (usize, usize) {
         let stop = stop_of(self.web.spots.len(), node as usize);
-        self.web.spots[stop.at].labels
+        let spot = &self.web.spots[stop.at];
+        (spot.low, spot.high)
     }
 
     fn edge(&self, node: u32, label: usize) -> Option<(u32, u32)> {

@@ -1,6 +1,6 @@
 //! What a tree's steps are charged.
-ghost use Rattle.std.specs.Prelude.{◌≡◌, ℕ, ◌<◌, ◌≤◌, ◌^◌, [], List, Option, Bool, IfSome};
-ghost use Rattle.std.specs.Bool.{OnTrue};
+ghost use Rattle.std.specs.Prelude.{◌≡◌, ℕ, ◌<◌, ◌≤◌, ◌^◌, [], List, None, Option, Bool, IfSome};
+ghost use Rattle.std.specs.Bool.{OnFalse, OnTrue};
 ghost use Rattle.floor_graphs.specs.Graphs.{Rate};
 ghost use Rattle.priced_paths.specs.Pricings.{IsLiveNode, IsPriced};
 
@@ -73,6 +73,13 @@ pub trait Pricing {
         requires depth { depth < Self.Tree.height (tree self.now) }
         requires label { label < breadth self.now depth }
         ensures { result ≡ step_at self.now depth kept.now label };
+
+    /// Whether a label may make a step at a depth, from what is kept. Of most labels that make none
+    /// this is told sooner than by the step.
+    fn may_step(&self, depth: usize, kept: &Self::Kept, label: usize) -> bool
+        requires depth { depth < Self.Tree.height (tree self.now) }
+        requires label { label < breadth self.now depth }
+        ensures { OnFalse result (step_at self.now depth kept.now label ≡ None) };
 
     /// Whether the same is kept. It may be denied of what is the same, at the cost of a larger web.
     fn is_same(&self, one: &Self::Kept, other: &Self::Kept) -> bool

@@ -1,7 +1,7 @@
 //! The web of what may be kept.
-ghost use Rattle.std.specs.Prelude.{◌≡◌, ◌+◌, ◌<◌, [], length, slice_index_or, None};
+ghost use Rattle.std.specs.Prelude.{◌≡◌, ◌<◌, [], length};
 ghost use Rattle.std.specs.Bool.{OnTrue};
-ghost use Rattle.priced_paths.specs.Webs.{depth_in, edge_in, IsInside, LeadsOn, IsEdgeOf, IsSpotOf, IsWeb};
+ghost use Rattle.priced_paths.specs.Webs.{depth_in, edge_in, HasSlots, IsInside, LeadsOn, IsEdgeOf, IsSpotOf, IsWeb, slot_edge};
 
 use crate::pricing::Pricing;
 use tree_search::Space;
@@ -19,14 +19,17 @@ pub struct Edge {
     pub cost: u32,
 }
 
-/// What is kept of some paths of a length, with its place among the edges: one for each label, from
-/// the first on.
+/// What is kept of some paths of a length, how many labels its steps have, and its slots among the
+/// edges: one for each label from `low` on, up to `high`. Under its other labels no step is made.
 #[derive(Clone, Copy)]
 pub struct Spot<K: Copy> {
     pub depth: usize,
     pub kept: K,
-    pub first: usize,
     pub labels: usize,
+    pub low: usize,
+    pub high: usize,
+    /// Where its slots begin.
+    pub first: usize,
 }
 
 /// The spots, the root's first, and the edges of all of them.
@@ -34,6 +37,30 @@ pub struct Spot<K: Copy> {
 pub struct Web<K: Copy> {
     pub spots: Vec<Spot<K>>,
     pub edges: Vec<Option<Edge>>,
+}
+
+/// Whether a spot's slots are for some of its labels, and stand among the edges.
+fn has_slots<K: Copy>(edges: &[Option<Edge>], spot: &Spot<K>) -> bool
+    ensures { OnTrue result (HasSlots edges.now spot.now) }
+{
+    if spot.low > spot.high || spot.high > spot.labels {
+        return false;
+    }
+    let count = edges.len();
+    let slots = spot.high - spot.low;
+    slots <= count && spot.first <= count - slots
+}
+
+/// The edge in the slot of a spot for a label. None where it has no slot for it.
+#[inline]
+fn slot<K: Copy>(edges: &[Option<Edge>], spot: &Spot<K>, label: usize) -> Option<Edge>
+    requires { HasSlots edges.now spot.now }
+    ensures { result ≡ slot_edge edges.now spot.now label }
+{
+    if label < spot.low || label >= spot.high {
+        return None;
+    }
+    edges[spot.first + (label - spot.low)]
 }
 
 impl<K: Copy> Web<K> {
@@ -56,7 +83,7 @@ impl<K: Copy> Web<K> {
         if label >= spot.labels {
             return None;
         }
-        self.edges[spot.first + label]
+        slot(&self.edges, spot, label)
     }
 }
 
@@ -98,12 +125,18 @@ fn is_edge<P: Pricing>(
 ) -> bool
     requires above { spot.now.depth < P.Tree.height (P.tree pricing.now) }
     requires label { label < P.breadth pricing.now spot.now.depth }
-    requires inside { spot.now.first + label < length web.now.edges.items }
+    requires slots { HasSlots web.now.edges.items spot.now }
     ensures { OnTrue result (IsEdgeOf web.now at spot.now.depth
-        (slice_index_or web.now.edges.items (spot.now.first + label) None)
+        (slot_edge web.now.edges.items spot.now label)
         (P.step_at pricing.now spot.now.depth spot.now.kept label)) }
 {
-    let edge = web.edges[spot.first + label];
+    let edge = slot(&web.edges, spot, label);
+    if !pricing.may_step(spot.depth, &spot.kept, label) {
+        return match edge {
+            None => true,
+            Some(_) => false,
+        };
+    }
     let step = pricing.step(spot.depth, &spot.kept, label);
     match (edge, step) {
         (None, None) => true,
@@ -119,15 +152,14 @@ fn is_spot<P: Pricing>(pricing: &P, web: &Web<P::Kept>, at: usize, spot: &Spot<P
     ensures { OnTrue result (IsSpotOf (P.Tree.height (P.tree pricing.now)) (P.breadth pricing.now)
         (P.step_at pricing.now) web.now at spot.now) }
 {
+    if !has_slots(&web.edges, spot) {
+        return false;
+    }
     if spot.depth >= pricing.space().depth() {
         if spot.labels != 0 {
             return false;
         }
         return true;
-    }
-    let count = web.edges.len();
-    if spot.labels > count || spot.first > count - spot.labels {
-        return false;
     }
     if spot.labels != pricing.labels(spot.depth) {
         return false;

@@ -17,6 +17,9 @@ returns-in_default g c = λ path stands.
     spot_from-append guide.web.now 0 path c.args.label
     ∙ ap (option_and_then (λ s. end_of (edge_in guide.web.now s c.args.label))) none
 
+pub edge-requires : goal.edge-requires
+edge-requires g c = c.args.self.now.guide.sound.inside c.in-Some.here.at
+
 pub returns-in_err-edge : goal.returns-in_err-edge
 returns-in_err-edge g c = λ path stands.
     let guide = c.args.self.now.guide in

@@ -4,6 +4,9 @@ use Rattle.priced_paths.proofs.Spots.{spot-append_none}
 use Rattle.priced_paths.proofs.Sums.{place_on, priced_sum-at, priced_sum-none}
 use Rattle.priced_paths.proofs.guide.PricedGuideGuide.follow.Goals as goal
 
+pub edge-requires : goal.edge-requires
+edge-requires g c = c.args.self.now.sound.inside c.args.place.now.at
+
 pub returns-in_err-edge : goal.returns-in_err-edge
 returns-in_err-edge g c = λ path stood at is_live.
     let self = c.args.self.now in
