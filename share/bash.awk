@@ -1,7 +1,7 @@
 # Behind table.awk: the completions for bash.
 
 function options_of(command, parts, n, i, found) {
-    n = words_of(command, parts)
+    n = offered_of(command, parts)
     for (i = 1; i <= n; i++) if (parts[i] ~ /^--/) found = found parts[i] " "
     return found "--help"
 }
@@ -40,7 +40,7 @@ END {
     for (i = 1; i <= option_count; i++) {
         if (value_of[options[i]] == "") continue
         kind = said["option", options[i], "kind"]
-        if (kind == "file") print "        " flagged(options[i]) ") compopt -o filenames; mapfile -t COMPREPLY < <(compgen -f -- \"$word\"); return ;;"
+        if (kind ~ /^files?$/) print "        " flagged(options[i]) ") compopt -o filenames; mapfile -t COMPREPLY < <(compgen -f -- \"$word\"); return ;;"
         else print "        " flagged(options[i]) ") mapfile -t COMPREPLY < <(compgen -W '" kind "' -- \"$word\"); return ;;"
     }
     print "    esac"

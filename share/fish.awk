@@ -8,13 +8,13 @@ function quoted(text) {
 
 # What fish is to offer for a kind of word.
 function offer(kind) {
-    if (kind == "file" || kind == "folder") return " -F"
+    if (kind ~ /^files?$/ || kind == "folder") return " -F"
     return kind == "" ? " -f" : " -f -a " quoted(kind)
 }
 
 function arguments(command, parts, n, i, only, option) {
     only = "complete -c fux -n '__fish_seen_subcommand_from " command "'"
-    n = words_of(command, parts)
+    n = offered_of(command, parts)
     print only offer(n && parts[1] !~ /^--/ ? (said["word", parts[1], "kind"] == "command" ? names : said["word", parts[1], "kind"]) : "")
     print only " -l help -d 'all of this command'"
     for (i = 1; i <= n; i++) {

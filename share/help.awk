@@ -75,7 +75,8 @@ function statuses(command, number, i) {
 }
 
 function one(command, i, text) {
-    printf "%s %s\n\n", fux, whole_form(command)
+    fold(fux " " whole_form(command), 0)
+    print ""
     for (i = 1; i <= many["command", command, "text"]; i++) {
         fold(item["command", command, "text", i], 0)
         print ""

@@ -55,3 +55,11 @@ function words_of(command, parts, form) {
     gsub(/[][]/, "", form)
     return split(form, parts, " ")
 }
+
+# The same, and behind them what the completions offer more.
+function offered_of(command, parts, n, i, more, count) {
+    n = words_of(command, parts)
+    count = split(said["command", command, "more"], more, " ")
+    for (i = 1; i <= count; i++) parts[n + i] = more[i]
+    return n + count
+}

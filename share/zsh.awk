@@ -11,7 +11,7 @@ function quoted(text) {
 
 # What zsh is to offer for a kind of word.
 function action(kind) {
-    if (kind == "file") return "_files"
+    if (kind ~ /^files?$/) return "_files"
     if (kind == "folder") return "_files -/"
     if (kind == "command") return "(" names ")"
     return kind == "" ? "" : "(" kind ")"
@@ -19,14 +19,14 @@ function action(kind) {
 
 function arguments(command, parts, n, i, line, kind, option) {
     line = "        (" command ") _arguments '--help[all of this command]'"
-    n = words_of(command, parts)
+    n = offered_of(command, parts)
     for (i = 1; i <= n; i++) {
         if (parts[i] ~ /^--/) {
             option = option_at(parts, i)
             kind = said["option", option, "kind"]
-            line = line " \\\n            '" parts[i] (value_of[option] == "" ? "" : "=") "[" quoted(said["option", option, "line"]) "]"
+            line = line " \\\n            '" parts[i] (value_of[option] == "" || kind == "files" ? "" : "=") "[" quoted(said["option", option, "line"]) "]"
             if (value_of[option] != "") {
-                line = line ":" value_of[option] ":" action(kind)
+                line = line (kind == "files" ? ":*" : "") ":" value_of[option] ":" action(kind)
                 i++
             }
             line = line "'"

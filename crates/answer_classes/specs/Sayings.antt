@@ -12,6 +12,7 @@ use Rattle.lesson_answers.specs.declared.answer.AnswerLines.{AnswerLines}
 use Rattle.lesson_answers.specs.Answers.{TellsAnswer}
 use Rattle.answer_classes.specs.declared.said.Said.{Said}
 use Rattle.answer_classes.specs.declared.said.Said.TheVariants.{Told, Refused, Unjoined, Unread}
+use Rattle.smf_answers.specs.declared.manner.Manner.{Manner}
 use Rattle.smf_answers.specs.Reading.{IsJoined}
 
 -- ---- by itself
@@ -68,20 +69,20 @@ IsSaidBy lesson bytes Unread = ⊥
 abbrev pub as_answer : Exercise → Exercise
 as_answer lesson = record lesson { setting = None }
 
--- these lines tell of the setting of the lesson that a file is what differs from the lesson, and
--- its marks by that
-pub record TellsJoined (lesson : Exercise) (top_first : Bool) (bytes : List ℕ) (lines : AnswerLines)
+-- these lines tell of the setting of the lesson that a file is, played in a manner, what differs
+-- from the lesson, and its marks by that
+pub record TellsJoined (lesson : Exercise) (manner : Manner) (bytes : List ℕ) (lines : AnswerLines)
     : Type 0 where
   pub score : Grid
-  pub joined : IsJoined lesson top_first bytes (Ok score)
+  pub joined : IsJoined lesson manner bytes (Ok score)
   pub told : TellsAnswer lesson (as_answer lesson) score lines
 
 -- this is said of a file with these bytes: so, or its first fault
-abbrev pub IsSaidJoined : Exercise → Bool → List ℕ → Said → Type 0
-IsSaidJoined lesson top_first bytes (Told lines) = TellsJoined lesson top_first bytes lines
-IsSaidJoined lesson top_first bytes (Unjoined fault) = IsJoined lesson top_first bytes (Err fault)
-IsSaidJoined lesson top_first bytes (Refused why) = ⊥
-IsSaidJoined lesson top_first bytes Unread = ⊥
+abbrev pub IsSaidJoined : Exercise → Manner → List ℕ → Said → Type 0
+IsSaidJoined lesson manner bytes (Told lines) = TellsJoined lesson manner bytes lines
+IsSaidJoined lesson manner bytes (Unjoined fault) = IsJoined lesson manner bytes (Err fault)
+IsSaidJoined lesson manner bytes (Refused why) = ⊥
+IsSaidJoined lesson manner bytes Unread = ⊥
 
 -- ---- a text, by a lesson or by itself
 
@@ -108,5 +109,5 @@ abbrev pub IsSaidOf : Option Exercise → Option Text → Said → Type 0
 IsSaidOf lesson = IsSaidOrUnread (IsSaid lesson) 65536
 
 -- and of a MIDI file of at most 1,048,576
-abbrev pub IsSaidOfFile : Exercise → Bool → Option Text → Said → Type 0
-IsSaidOfFile lesson top_first = IsSaidOrUnread (IsSaidJoined lesson top_first) 1048576
+abbrev pub IsSaidOfFile : Exercise → Manner → Option Text → Said → Type 0
+IsSaidOfFile lesson manner = IsSaidOrUnread (IsSaidJoined lesson manner) 1048576

@@ -10,7 +10,7 @@ use class_marker::Text;
 use fux_grid::{Exercise, Score};
 use fux_pitch::Memory;
 use lesson_answers::{AnswerLines, answer_lines};
-use smf_answers::{JoinFault, join_smf};
+use smf_answers::{JoinFault, Manner, join_smf};
 use smf_bytes::ByteFault;
 use smf_score::SmfFault;
 use std::alloc::Global;
@@ -50,14 +50,14 @@ fn setting_lines(alloc: Global, lesson: &Exercise, score: &Score) -> Result<Answ
 }
 
 /// What is said of a MIDI file by a lesson.
-fn say_file(alloc: Global, lesson: &Exercise, file: &Text, top_first: bool) -> Result<Said, Memory>
+fn say_file(alloc: Global, lesson: &Exercise, file: &Text, manner: Manner) -> Result<Said, Memory>
     requires { IsValid lesson.now }
-    ensures { IfOk result (IsSaidOfBytes (IsSaidJoined lesson.now top_first) 1048576 file.now) }
+    ensures { IfOk result (IsSaidOfBytes (IsSaidJoined lesson.now manner) 1048576 file.now) }
 {
     let Text::Bytes(bytes) = file else {
         return Ok(Said::Unjoined(TOO_LONG));
     };
-    match join_smf(alloc, lesson, bytes, top_first) {
+    match join_smf(alloc, lesson, bytes, manner) {
         Ok(score) => Ok(Said::Told(setting_lines(alloc, lesson, &score)?)),
         Err(fault) => match fault {
             JoinFault::Smf(fault) => match fault {
@@ -74,13 +74,13 @@ pub fn say_joined(
     alloc: Global,
     lesson: &Exercise,
     found: &Option<Text>,
-    top_first: bool,
+    manner: Manner,
 ) -> Result<Said, Memory>
     requires { IsValid lesson.now }
-    ensures { IfOk result (IsSaidOfFile lesson.now top_first found.now) }
+    ensures { IfOk result (IsSaidOfFile lesson.now manner found.now) }
 {
     match found {
         None => Ok(Said::Unread),
-        Some(file) => say_file(alloc, lesson, file, top_first),
+        Some(file) => say_file(alloc, lesson, file, manner),
     }
 }

@@ -1,5 +1,5 @@
 -- What the words on the command line ask for. A word is its bytes.
-use Rattle.std.specs.Prelude.{◌≡◌, ℕ, ◌+◌, ◌-◌, ◌==◌, ◌≤◌, ◌≤ℤ◌, ◌&&◌, int_le, nat_le, not, length, Bool, true, false, List, [], ◌∷◌, String, Option, Some, None, IfSome, drop, slice_index_or, take, map, string_bytes, codes, if◌then◌else◌, option_and_then, option_map}
+use Rattle.std.specs.Prelude.{◌≡◌, ℕ, ◌+◌, ◌-◌, ◌==◌, ◌≤◌, ◌≤ℤ◌, ◌&&◌, ◌||◌, int_le, nat_le, not, length, Bool, true, false, List, [], ◌∷◌, String, Option, Some, None, IfSome, drop, slice_index_or, take, map, string_bytes, codes, if◌then◌else◌, option_and_then, option_map}
 use Rattle.std.specs.Borrow.{Bor}
 use Rattle.std.specs.Option.{option_map_or}
 use Rattle.std.specs.Str.{bytes_eq}
@@ -9,6 +9,7 @@ use Rattle.cert_text.specs.declared.answers.Form.TheVariants.{First, Second}
 use Rattle.fux_grid.specs.declared.exercise.Head.{Head}
 use Rattle.fux_pitch.specs.Pitch.{key_of}
 use Rattle.fux_text.specs.Names.{mode_named, pitch_named}
+use Rattle.smf_answers.specs.declared.manner.Manner.{Manner}
 use Rattle.smf_score.specs.Heads.{IsHead}
 use Rattle.text_lines.specs.Numbers.{number_within}
 use Rattle.command_words.specs.declared.command.Command.{Command}
@@ -42,7 +43,7 @@ pub data Task : Type 0 where
   check : (name certificate : Text) (sheet : Option Text) → Task
   explain : (name : Text) (subject : Subject) → Task
   fromsmf : (name : Text) (head : Head) → Task
-  join_smf : (lesson name : Text) (top_first : Bool) → Task
+  join_smf : (lesson name : Text) (manner : Manner) → Task
   drill : (number : ℕ) (by_sharper : Bool) → Task
   mark_answer : (name lesson : Text) → Task
   class_report : (list : Text) → Task
@@ -65,7 +66,7 @@ making_task (OnMixed name sheet named job) = on_mixed name.now (sheet_named shee
 making_task (Check name certificate sheet) = check name.now certificate.now (sheet_named sheet)
 making_task (Explain name subject) = explain name.now subject
 making_task (FromSmf name head) = fromsmf name.now head
-making_task (JoinSmf lesson name top_first) = join_smf lesson.now name.now top_first
+making_task (JoinSmf lesson name manner) = join_smf lesson.now name.now manner
 making_task (Drill number by_sharper) = drill number by_sharper
 making_task (MarkAnswer name lesson) = mark_answer name.now lesson.now
 making_task (Class list) = class_report list.now
@@ -233,11 +234,18 @@ from_smf_asked rows = do
   head ← head_in rows
   Some (fromsmf name head)
 
+-- how MIDI files were played
+abbrev pub manner_in : List Row → Manner
+manner_in rows = record {
+  top_first = is_set (codes "top-first") rows;
+  legato = is_set (codes "legato") rows;
+}
+
 abbrev pub join_smf_asked : List Row → Option Task
 join_smf_asked rows = do
   lesson ← first_of (codes "LESSON") rows
   name ← first_of (codes "FILE") rows
-  Some (join_smf lesson name (is_set (codes "top-first") rows))
+  Some (join_smf lesson name (manner_in rows))
 
 abbrev pub drill_asked : List Row → Option Task
 drill_asked rows =
@@ -259,32 +267,32 @@ cantus_of name (Some sheet) = on_exercise name (Some sheet) CantusCharges
 abbrev pub cantus_asked : List Row → Option Task
 cantus_asked rows = first_of (codes "EX") rows >>= λ name. Some (cantus_of name (first_of (codes "sheet") rows))
 
--- what the files of a class are: texts, or MIDI files where there is a lesson
-abbrev pub kind_in : Option Text → Bool → Bool → Option FileKind
-kind_in lesson false false = Some read_as.Text
-kind_in lesson false true = None
-kind_in None true top_first = None
-kind_in (Some lesson) true top_first = Some (read_as.Midi top_first)
+-- what the files of a class are: texts, or MIDI files where there is a lesson; words say how they
+-- were played of MIDI files alone
+abbrev pub kind_in : Option Text → Bool → Manner → Option FileKind
+kind_in lesson false manner = if manner.top_first || manner.legato then None else Some read_as.Text
+kind_in None true manner = None
+kind_in (Some lesson) true manner = Some (read_as.Midi manner)
 
 -- a page is made where that is wanted, and of texts alone
 abbrev pub page_of : FileKind → Option FileKind
 page_of read_as.Text = Some read_as.Page
 page_of read_as.Page = None
-page_of (read_as.Midi top_first) = None
+page_of (read_as.Midi manner) = None
 
 abbrev pub paged_in : Bool → FileKind → Option FileKind
 paged_in is_page kind = if is_page then page_of kind else Some kind
 
 abbrev pub files_in : List Row → Option FileKind
 files_in rows = do
-  kind ← kind_in (first_of (codes "lesson") rows) (is_set (codes "midi") rows) (is_set (codes "top-first") rows)
+  kind ← kind_in (first_of (codes "lesson") rows) (is_set (codes "midi") rows) (manner_in rows)
   paged_in (is_set (codes "page") rows) kind
 
 -- each name has its place, whatever its file is, where that is wanted, and in each page
 abbrev pub goes_on : FileKind → Bool → Bool
 goes_on read_as.Text wanted = wanted
 goes_on read_as.Page wanted = true
-goes_on (read_as.Midi top_first) wanted = wanted
+goes_on (read_as.Midi manner) wanted = wanted
 
 -- marking a class by itself; or by a lesson or going on, whatever its files are
 abbrev pub classing_of : Text → Option Text → FileKind → Bool → Task

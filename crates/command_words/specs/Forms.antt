@@ -47,4 +47,4 @@ form_of verb = with_parts (words_of (row_of verb).0) (row_of verb).1
 -- what it takes between `class` and `--files`
 abbrev pub files_form : App
 files_form =
-    with_parts (words_of (codes "class")) (part.Lesson ∷ part.KeepGoing ∷ part.Page ∷ part.Midi ∷ part.TopFirst ∷ [])
+    with_parts (words_of (codes "class")) (part.Lesson ∷ part.KeepGoing ∷ part.Page ∷ part.Midi ∷ part.TopFirst ∷ part.Legato ∷ [])

@@ -30,9 +30,9 @@ row_of verb.Cantus = (codes "cantus", part.Exercise ∷ part.Sheet ∷ [])
 row_of verb.Print = (codes "print", part.Exercise ∷ part.Wrap ∷ [])
 row_of verb.ToSmf = (codes "tosmf", part.Exercise ∷ [])
 row_of verb.FromSmf = (codes "fromsmf", part.File ∷ part.Mode ∷ part.Species ∷ part.Voice ∷ part.Cantus ∷ part.TopFirst ∷ [])
-row_of verb.JoinSmf = (codes "joinsmf", part.Lessons ∷ part.File ∷ part.TopFirst ∷ [])
+row_of verb.JoinSmf = (codes "joinsmf", part.Lessons ∷ part.File ∷ part.TopFirst ∷ part.Legato ∷ [])
 row_of verb.Drill = (codes "drill", part.Number ∷ part.BySharper ∷ [])
-row_of verb.Class = (codes "class", part.List ∷ part.Lesson ∷ part.KeepGoing ∷ part.Page ∷ part.Midi ∷ part.TopFirst ∷ [])
+row_of verb.Class = (codes "class", part.List ∷ part.Lesson ∷ part.KeepGoing ∷ part.Page ∷ part.Midi ∷ part.TopFirst ∷ part.Legato ∷ [])
 row_of verb.Canon = (codes "canon", part.File ∷ part.Sheet ∷ part.Budget ∷ part.Nth ∷ [])
 row_of verb.Mixed = (codes "mixed", part.Exercise ∷ part.Sheet ∷ part.Budget ∷ part.With ∷ [])
 row_of verb.MarkMixed = (codes "markmixed", part.Exercise ∷ part.With ∷ [])
@@ -76,6 +76,7 @@ name_of part.Species = codes "species"
 name_of part.Voice = codes "voice"
 name_of part.Cantus = codes "cantus"
 name_of part.TopFirst = codes "top-first"
+name_of part.Legato = codes "legato"
 name_of part.BySharper = codes "best"
 
 -- how a part is given
@@ -109,6 +110,7 @@ kind_of part.Species = kind.Needed
 kind_of part.Voice = kind.Needed
 kind_of part.Cantus = kind.Needed
 kind_of part.TopFirst = kind.Flag
+kind_of part.Legato = kind.Flag
 kind_of part.BySharper = kind.Flag
 
 -- a word is the first of a command

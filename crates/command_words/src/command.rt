@@ -12,6 +12,7 @@ use clap::ArgMatches;
 use clap::error::ErrorKind;
 use fux_grid::Head;
 use fux_pitch::{Memory, Mode, Pitch};
+use smf_answers::Manner;
 use std::alloc::Global;
 
 /// What is to be made of an exercise.
@@ -96,9 +97,8 @@ pub enum FileKind {
     Text,
     /// Note texts, of which a page is made.
     Page,
-    /// MIDI files, the first track of which is the highest voice where `top_first`, unless the
-    /// cantus says otherwise.
-    Midi { top_first: bool },
+    /// MIDI files, played in a manner.
+    Midi { manner: Manner },
 }
 
 /// What a search is asked for.
@@ -146,12 +146,12 @@ pub enum Making<'a> {
         name: &'a str,
         head: Head,
     },
-    /// The note text of the lesson in a file with the setting that a MIDI file is, the first track
-    /// of which is the highest voice where `top_first`, unless the cantus says otherwise.
+    /// The note text of the lesson in a file with the setting that a MIDI file is, played in a
+    /// manner.
     JoinSmf {
         lesson: &'a str,
         name: &'a str,
-        top_first: bool,
+        manner: Manner,
     },
     /// The exercise of a number with its best setting, by the floors of `best` where `by_sharper`.
     Drill {

@@ -28,6 +28,7 @@ pub fn files_form<'a>(alloc: Global) -> Result<Command<'a>, AllocError>
         Part::Page,
         Part::Midi,
         Part::TopFirst,
+        Part::Legato,
     ];
     with_parts(alloc, bare(alloc, word), parts)
 }

@@ -5,7 +5,7 @@ ghost use Rattle.clap.specs.Words.{first_of, found_of, rows_of};
 ghost use Rattle.fux_text.specs.Names.{mode_named};
 ghost use Rattle.smf_score.specs.Heads.{IsHead};
 ghost use Rattle.text_lines.specs.Numbers.{number_within};
-ghost use Rattle.command_words.specs.Commands.{AreNamed, HasHead, HasMidiHead, IsNamedSubject, IsWanted, against_in, are_a_class, asks, before_in, before_nth, best_asked, budget_in, canon_asked, cantus_asked, cantus_of, certify_asked, certify_cantus_asked, check_asked, check_cantus_asked, class_asked, classing_of, compose_asked, composing, drill_asked, either_asked, either_by, explain_asked, files_asked, files_in, filing_of, form_in, from_smf_asked, goes_on, head_in, is_item, is_set, job_asked, join_smf_asked, kind_in, making_task, mark_asked, mark_mixed_asked, marking_of, mixed_asked, mixed_by, named_in, new_cantus_asked, number_at, page_of, paged_in, picture_asked, print_asked, said_of, search_in, subject_in, task_of, texts, wanted_in, weigh_asked, weighing_with, wrap_in};
+ghost use Rattle.command_words.specs.Commands.{AreNamed, HasHead, HasMidiHead, IsNamedSubject, IsWanted, against_in, are_a_class, asks, before_in, before_nth, best_asked, budget_in, canon_asked, cantus_asked, cantus_of, certify_asked, certify_cantus_asked, check_asked, check_cantus_asked, class_asked, classing_of, compose_asked, composing, drill_asked, either_asked, either_by, explain_asked, files_asked, files_in, filing_of, form_in, from_smf_asked, goes_on, head_in, is_item, is_set, job_asked, join_smf_asked, kind_in, making_task, manner_in, mark_asked, mark_mixed_asked, marking_of, mixed_asked, mixed_by, named_in, new_cantus_asked, number_at, page_of, paged_in, picture_asked, print_asked, said_of, search_in, subject_in, task_of, texts, wanted_in, weigh_asked, weighing_with, wrap_in};
 
 use crate::command::{Command, FileKind, Job, Making, MixedJob, Named, Search, Subject, Wanted};
 use crate::verbs::Verb;
@@ -14,6 +14,7 @@ use clap::ArgMatches;
 use fux_grid::Head;
 use fux_pitch::{Mode, semitone};
 use fux_text::parse_pitch;
+use smf_answers::Manner;
 use text_lines::{is_same, parse_number};
 
 const USUAL_BUDGET: u32 = 1_000_000;
@@ -310,6 +311,16 @@ fn from_smf_asked<'a>(matches: &ArgMatches<'a>) -> Option<Command<'a>>
     Some(Command::Make(Making::FromSmf { name, head }))
 }
 
+/// How MIDI files were played.
+fn manner_of(matches: &ArgMatches<'_>) -> Manner
+    ensures { result ≡ manner_in (rows_of (found_of matches.now)) }
+{
+    Manner {
+        top_first: is_set(matches, "top-first"),
+        legato: is_set(matches, "legato"),
+    }
+}
+
 /// `joinsmf`, on a lesson and a MIDI file.
 fn join_smf_asked<'a>(matches: &ArgMatches<'a>) -> Option<Command<'a>>
     ensures asked { option_map task_of result ≡ join_smf_asked (rows_of (found_of matches.now)) }
@@ -317,11 +328,11 @@ fn join_smf_asked<'a>(matches: &ArgMatches<'a>) -> Option<Command<'a>>
 {
     let lesson = value(matches, "LESSON")?;
     let name = value(matches, "FILE")?;
-    let top_first = is_set(matches, "top-first");
+    let manner = manner_of(matches);
     Some(Command::Make(Making::JoinSmf {
         lesson,
         name,
-        top_first,
+        manner,
     }))
 }
 
@@ -385,14 +396,14 @@ fn cantus_asked<'a>(matches: &ArgMatches<'a>) -> Option<Command<'a>>
 }
 
 /// What the files of a class are: texts, or MIDI files where there is a lesson.
-fn kind_of(lesson: Option<&str>, is_midi: bool, top_first: bool) -> Option<FileKind>
-    ensures { result ≡ kind_in (option_map (λ text. text.now) lesson.entry) is_midi top_first }
+fn kind_of(lesson: Option<&str>, is_midi: bool, manner: Manner) -> Option<FileKind>
+    ensures { result ≡ kind_in (option_map (λ text. text.now) lesson.entry) is_midi manner }
 {
-    match (lesson, is_midi, top_first) {
+    match (lesson, is_midi, manner.top_first || manner.legato) {
         (_, false, false) => Some(FileKind::Text),
         (_, false, true) => None,
         (None, true, _) => None,
-        (Some(_), true, top_first) => Some(FileKind::Midi { top_first }),
+        (Some(_), true, _) => Some(FileKind::Midi { manner }),
     }
 }
 
@@ -420,8 +431,8 @@ fn files_of(matches: &ArgMatches<'_>) -> Option<FileKind>
 {
     let lesson = value(matches, "lesson");
     let is_midi = is_set(matches, "midi");
-    let top_first = is_set(matches, "top-first");
-    let kind = kind_of(lesson, is_midi, top_first)?;
+    let manner = manner_of(matches);
+    let kind = kind_of(lesson, is_midi, manner)?;
     paged_of(is_set(matches, "page"), kind)
 }
 

@@ -146,6 +146,8 @@ pub enum Part {
     Cantus,
     /// The tracks of a MIDI file begin with the top voice.
     TopFirst,
+    /// Notes of a MIDI file that are held to most of their places are whole.
+    Legato,
     /// The search of `best` in place of that of `compose`.
     BySharper,
 }
@@ -196,7 +198,10 @@ impl Verb {
                     Part::TopFirst,
                 ],
             ),
-            Verb::JoinSmf => ("joinsmf", &[Part::Lessons, Part::File, Part::TopFirst]),
+            Verb::JoinSmf => (
+                "joinsmf",
+                &[Part::Lessons, Part::File, Part::TopFirst, Part::Legato],
+            ),
             Verb::Drill => ("drill", &[Part::Number, Part::BySharper]),
             Verb::Class => (
                 "class",
@@ -207,6 +212,7 @@ impl Verb {
                     Part::Page,
                     Part::Midi,
                     Part::TopFirst,
+                    Part::Legato,
                 ],
             ),
             Verb::Canon => ("canon", &[Part::File, Part::Sheet, Part::Budget, Part::Nth]),
@@ -300,6 +306,7 @@ impl Part {
             Part::Voice => "voice",
             Part::Cantus | Part::CantusAlone => "cantus",
             Part::TopFirst => "top-first",
+            Part::Legato => "legato",
             Part::BySharper => "best",
         }
     }
@@ -333,6 +340,7 @@ impl Part {
             | Part::Page
             | Part::Midi
             | Part::TopFirst
+            | Part::Legato
             | Part::BySharper
             | Part::CantusAlone => Kind::Flag,
         }

@@ -1,6 +1,6 @@
 -- An answer is the reading where it is of what reading gives (`reads`, `reads_fault`, `reads_from`),
 -- and what the answer of a file's notes is (`is_of_file`, `fails_score`).
-use Rattle.std.proofs.Common.{◌≡◌, ℕ, ◌*◌, Bool, List, Result, Ok, Err, refl, ap, subst}
+use Rattle.std.proofs.Common.{◌≡◌, ℕ, ◌*◌, List, Result, Ok, Err, refl, ap, subst}
 use Rattle.fux_grid.specs.declared.exercise.Exercise.{Exercise}
 use Rattle.fux_grid.specs.Grid.{Grid}
 use Rattle.smf_bytes.specs.Events.{File}
@@ -15,6 +15,7 @@ use Rattle.smf_score.specs.Played.{notes_in}
 use Rattle.smf_score.specs.Strokes.{strokes_in}
 use Rattle.smf_answers.specs.declared.fault.JoinFault.{JoinFault}
 use Rattle.smf_answers.specs.declared.fault.JoinFault.TheVariants.{Smf}
+use Rattle.smf_answers.specs.declared.manner.Manner.{Manner}
 use Rattle.smf_answers.specs.Faults.{Fails, Gives}
 use Rattle.smf_answers.specs.Meters.{meter_in, signatures_in}
 use Rattle.smf_answers.specs.Reading.{OfFile, ReadsAs, joined_notes, joined_voices}
@@ -46,17 +47,17 @@ pub fails_score : (lesson : Exercise) (fault : SmfFault) (read : Result (List (L
 fails_score lesson faults.Memory read h = tt
 fails_score lesson fault read h = ap (joined_voices lesson) h
 
-module _ (lesson : Exercise) (top_first : Bool) (file : File) where
+module _ (lesson : Exercise) (manner : Manner) (file : File) where
   pub no_strokes : (fault : SmfFault) → strokes_in file.answers ≡ Err fault
-      → OfFile lesson top_first file (Err (Smf fault))
+      → OfFile lesson manner file (Err (Smf fault))
   no_strokes fault e = rw e refl
 
   pub no_meter : (strokes : List Stroke) (fault : JoinFault) → strokes_in file.answers ≡ Ok strokes
-      → meter_in file.header.division (signatures_in file.answers) ≡ Err fault → OfFile lesson top_first file (Err fault)
+      → meter_in file.header.division (signatures_in file.answers) ≡ Err fault → OfFile lesson manner file (Err fault)
   no_meter strokes fault e m = rw e (rw m refl)
 
   pub is_of_file : (strokes : List Stroke) (wholes : ℕ) (notes : List Played) → strokes_in file.answers ≡ Ok strokes
       → meter_in file.header.division (signatures_in file.answers) ≡ Ok wholes
-      → IsInOrder (notes_in (record { format = file.header.format; top_first = top_first }) strokes) notes
-      → OfFile lesson top_first file (joined_notes lesson (wholes * file.header.division) notes)
+      → IsInOrder (notes_in (record { format = file.header.format; top_first = manner.top_first }) strokes) notes
+      → OfFile lesson manner file (joined_notes lesson manner.legato (wholes * file.header.division) notes)
   is_of_file strokes wholes notes e m order = rw e (rw m (notes, order, refl))

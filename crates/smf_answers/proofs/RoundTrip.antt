@@ -1,6 +1,6 @@
 -- The file of a setting of a lesson is joined to it again (`joins_back`), and is joined to it so
 -- alone (`joined_once`).
-use Rattle.std.proofs.Common.{◌≡◌, ◌≢◌, ◌⊎◌, ne_eqb, ℕ, zero, suc, ◌+◌, ◌*◌, ◌/◌, ◌%◌, ◌<◌, ◌≤◌, Bool, true, false, List, [], ◌∷◌, ◌++◌, Contains, filter, length, get_or, map, Option, Some, None, Result, Ok, Err, inl, inr, refl, sym, ◌∙◌, ap, subst, arith, eqb}
+use Rattle.std.proofs.Common.{◌≡◌, ◌≢◌, ne_eqb, ℕ, zero, suc, ◌+◌, ◌*◌, ◌/◌, ◌%◌, ◌<◌, ◌≤◌, Bool, true, false, List, [], ◌∷◌, ◌++◌, Contains, filter, length, get_or, map, Option, Some, None, Result, Ok, Err, refl, sym, ◌∙◌, ap, subst, arith}
 use Rattle.std.specs.Prelude.{◌==◌, if◌then◌else◌, unsigned_abs}
 use Rattle.std.specs.List.{range_with_len}
 use Rattle.std.specs.Option.{option_to_list, unwrap_or}
@@ -9,12 +9,9 @@ use Rattle.std.proofs.lemmas.List.{length-map, ext_get_or}
 use Rattle.std.proofs.lemmas.List.FromFn.{get_or-map-range_with_len, get_or-range_with_len, length-map-range_with_len, length-range_with_len}
 use Rattle.std.proofs.Math.ListN.{get_or-map}
 use Rattle.fux_pitch.specs.declared.pitch.Pitch.{Pitch}
-use Rattle.fux_pitch.specs.Pitch.{key_of}
-use Rattle.fux_pitch.specs.Spelling.{spelled}
 use Rattle.fux_pitch.proofs.SpellingLemmas.{key_of-from_spelled}
 use Rattle.fux_grid.specs.declared.cell.Cell.{Cell}
-use Rattle.fux_grid.specs.declared.cell.Cell.TheVariants.{Rest, Hold, Start}
-use Rattle.fux_grid.specs.declared.cell.Note.{Note}
+use Rattle.fux_grid.specs.declared.cell.Cell.TheVariants.{Rest}
 use Rattle.fux_grid.specs.declared.exercise.Exercise.{Exercise}
 use Rattle.fux_grid.specs.declared.exercise.Head.{Head}
 use Rattle.fux_grid.specs.Cells.{cell_in}
@@ -29,56 +26,59 @@ use Rattle.smf_score.specs.declared.fault.SmfFault.{SmfFault}
 use Rattle.smf_score.specs.declared.placed.Placed.{Placed}
 use Rattle.smf_score.specs.declared.played.Played.{Played}
 use Rattle.smf_score.specs.declared.strokes.Stroke.{Stroke}
-use Rattle.smf_score.specs.Exercise.{last_slot}
 use Rattle.smf_score.specs.Lines.{notes_of}
 use Rattle.smf_score.specs.Order.{IsInOrder}
-use Rattle.smf_score.specs.Placing.{voices_of, voices_placed}
+use Rattle.smf_score.specs.Faults.{each}
+use Rattle.smf_score.specs.Placing.{voice_placed, voices_of, voices_placed}
+use Rattle.smf_score.proofs.EachLemmas.{each_ok, ok_is}
 use Rattle.smf_score.specs.Played.{notes_in}
 use Rattle.smf_score.specs.ReadBack.{IsHeadOf, IsSounding, respelled, respelled_cell}
 use Rattle.smf_score.specs.Sounding.{cells_of}
 use Rattle.smf_score.specs.Strokes.{strokes_in}
 use Rattle.smf_score.specs.Written.{midi_key, smf_of}
-use Rattle.smf_score.proofs.CellsBack.{lines_back, respelled_columns, respelled_line}
+use Rattle.smf_score.proofs.CellsBack.{lines_back, respelled_line}
 use Rattle.smf_score.proofs.FileBack.{file_back, file_header, meant_by, meant_in, voice_notes, voices_played}
 use Rattle.smf_score.proofs.NotesBack.{all_placed, notes_in_order, placed_note, placed_voices, spelled_as}
 use Rattle.smf_score.proofs.OrderLemmas.{one_order}
 use Rattle.smf_score.proofs.RoundTrip.{last_is, own_cantus}
 use Rattle.smf_answers.specs.declared.fault.JoinFault.{JoinFault}
+use Rattle.smf_answers.specs.declared.manner.Manner.{Manner}
 use Rattle.smf_answers.specs.declared.meters.Signature.{Signature}
 use Rattle.smf_answers.specs.Cantus.{are_late, bar_fault, cantus_fault, in_bar}
-use Rattle.smf_answers.specs.Joined.{bars_in, joined, line_of, lines_of, score_in, unless, voices_fault}
+use Rattle.smf_answers.specs.Joined.{bars_in, joined, line_of, score_in, unless, voices_fault}
 use Rattle.smf_answers.specs.Meters.{meter_in, signature_in, signature_of, signatures_in}
 use Rattle.smf_answers.specs.Orders.{cantus_at, only, sounding, sounds, voice_of}
-use Rattle.smf_answers.specs.ReadBack.{IsSpelled, JoinsBack}
+use Rattle.smf_answers.specs.ReadBack.{IsSpelled, JoinsBack, as_written}
 use Rattle.smf_answers.specs.Reading.{IsJoined, OfHeader, OfMeter, OfStrokes, joined_notes, joined_voices}
+use Rattle.smf_answers.specs.Staves.{voices_heard}
 use Rattle.smf_answers.proofs.JoinedLemmas.{counted}
 use Rattle.voice_lines.specs.Lines.{cantus_cells, score_of}
 use Rattle.voice_lines.proofs.Scores.{line-cell, score_own}
 
 -- ---- one reading
 
-module _ (lesson : Exercise) (top_first : Bool) (a b : Result Grid JoinFault) where
+module _ (lesson : Exercise) (manner : Manner) (a b : Result Grid JoinFault) where
   meter_once : (file : File) (strokes : List Stroke) (r : Result ℕ JoinFault)
-      → OfMeter lesson top_first file strokes r a → OfMeter lesson top_first file strokes r b → a ≡ b
+      → OfMeter lesson manner file strokes r a → OfMeter lesson manner file strokes r b → a ≡ b
   meter_once file strokes (Err fault) first second = first ∙ sym second
   meter_once file strokes (Ok wholes) first second =
-      let notes = notes_in (record { format = file.header.format; top_first = top_first }) strokes in
+      let notes = notes_in (record { format = file.header.format; top_first = manner.top_first }) strokes in
       let same = one_order notes first.0 second.0 first.1 second.1 in
-      first.2 ∙ ap (λ (ns : List Played). joined_notes lesson (wholes * file.header.division) ns) same ∙ sym second.2
+      first.2 ∙ ap (λ (ns : List Played). joined_notes lesson manner.legato (wholes * file.header.division) ns) same ∙ sym second.2
 
-  strokes_once : (file : File) (r : Result (List Stroke) SmfFault) → OfStrokes lesson top_first file r a
-      → OfStrokes lesson top_first file r b → a ≡ b
+  strokes_once : (file : File) (r : Result (List Stroke) SmfFault) → OfStrokes lesson manner file r a
+      → OfStrokes lesson manner file r b → a ≡ b
   strokes_once file (Err fault) first second = first ∙ sym second
   strokes_once file (Ok strokes) first second =
       meter_once file strokes (meter_in file.header.division (signatures_in file.answers)) first second
 
-  header_once : (r : Result File ByteFault) → OfHeader lesson top_first r a → OfHeader lesson top_first r b → a ≡ b
+  header_once : (r : Result File ByteFault) → OfHeader lesson manner r a → OfHeader lesson manner r b → a ≡ b
   header_once (Err fault) first second = first ∙ sym second
   header_once (Ok file) first second = strokes_once file (strokes_in file.answers) first second
 
-  pub joined_once : (bytes : List ℕ) → IsJoined lesson top_first bytes a → IsJoined lesson top_first bytes b → a ≡ b
+  pub joined_once : (bytes : List ℕ) → IsJoined lesson manner bytes a → IsJoined lesson manner bytes b → a ≡ b
   joined_once bytes (one, file, first) (other, same, second) =
-      header_once one first (subst (λ (r : Result File ByteFault). OfHeader lesson top_first r b)
+      header_once one first (subst (λ (r : Result File ByteFault). OfHeader lesson manner r b)
       (file_is bytes other same ∙ sym (file_is bytes one file)) second)
 
 -- ---- the signatures of a written file
@@ -114,6 +114,23 @@ signatures_are (Ok event ∷ answers) =
     ap (λ l. option_to_list (signature_of event.tick event.message) ++ l) (signatures_are answers)
     ∙ sym (one_signature event.tick event.message (meant_in answers))
 signatures_are (Err fault ∷ answers) = refl
+
+-- ---- voices with tracks of their own
+
+-- as many are read as there are
+each_long : {X Y : Type 0} (read : X → Result Y SmfFault) (xs : List X) (ys : List Y) → each read xs ≡ Ok ys
+    → length xs ≡ length ys
+unfolding each
+each_long read [] ys all = ap length (ok_is [] ys all)
+each_long read (x ∷ xs) ys all =
+    let parts = each_ok read x xs ys all in
+    let more = each_long read xs parts.1 parts.3 in
+    omega (arith, more, ap length parts.4)
+
+-- where there are as many tracks as the lesson has voices, each is a voice
+own_tracks : (lesson : Exercise) (division : ℕ) (notes : List Played) → lesson.voices ≤ length (voices_of notes)
+    → voices_heard lesson false division notes ≡ voices_placed division (voices_of notes)
+own_tracks lesson division notes many = rw (le-ltb (length (voices_of notes)) lesson.voices many) refl
 
 -- ---- the notes of a cantus
 
@@ -311,11 +328,15 @@ module _ (lesson : Exercise) (score : Grid) (sounding_is : IsSounding lesson sco
   joined_is =
       counted lesson placed long ∙ ap (λ fault. unless fault (Ok (score_in lesson placed))) right ∙ ap Ok score_back
 
-  notes_joined : joined_notes lesson 480 (voices_played columns 0 lesson.voices) ≡ Ok score
+  notes_joined : joined_notes lesson false 480 (voices_played columns 0 lesson.voices) ≡ Ok score
   unfolding joined_notes
-  notes_joined = ap (joined_voices lesson) (all_placed columns lesson.voices sounding_is.notes) ∙ joined_is
+  notes_joined =
+      let notes = voices_played columns 0 lesson.voices in
+      let own = all_placed columns lesson.voices sounding_is.notes in
+      let tracks = each_long (voice_placed 480) (voices_of notes) placed own in
+      ap (joined_voices lesson) (own_tracks lesson 480 notes (omega (arith, tracks, long)) ∙ own) ∙ joined_is
 
-  file_joined : IsJoined lesson false (smf_of score) (Ok score)
+  file_joined : IsJoined lesson as_written (smf_of score) (Ok score)
   file_joined =
       let few : length columns ≤ 192 = omega (arith, whole, sounding_is.valid.most_bars) in
       let count = sounding_is.given.complete.voices in
@@ -328,8 +349,8 @@ module _ (lesson : Exercise) (score : Grid) (sounding_is : IsSounding lesson sco
       ap (meter_in 480) (signatures_are file.0 ∙ ap meant_signatures file.5) in (
         Ok read,
         file.1,
-        subst (λ (r : Result (List Stroke) SmfFault). OfStrokes lesson false read r (Ok score)) (sym file.3)
-            (subst (λ (r : Result ℕ JoinFault). OfMeter lesson false read file.2 r (Ok score)) (sym meter) (
+        subst (λ (r : Result (List Stroke) SmfFault). OfStrokes lesson as_written read r (Ok score)) (sym file.3)
+            (subst (λ (r : Result ℕ JoinFault). OfMeter lesson as_written read file.2 r (Ok score)) (sym meter) (
               played,
               subst (λ (ns : List Played). IsInOrder ns played) (sym notes) (notes_in_order columns lesson.voices),
               sym notes_joined,
@@ -339,4 +360,4 @@ module _ (lesson : Exercise) (score : Grid) (sounding_is : IsSounding lesson sco
 pub joins_back : JoinsBack
 joins_back lesson score sounding own =
     let file = file_joined lesson score sounding own in
-    (file, λ other is. joined_once lesson false other (Ok score) (smf_of score) is file)
+    (file, λ other is. joined_once lesson as_written other (Ok score) (smf_of score) is file)

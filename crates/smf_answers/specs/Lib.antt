@@ -2,7 +2,10 @@ pub mod Cantus
 pub mod FaultTexts
 pub mod Faults
 pub mod Joined
+pub mod Legato
 pub mod Meters
 pub mod Orders
 pub mod ReadBack
 pub mod Reading
+pub mod Staves
+pub mod Tracks

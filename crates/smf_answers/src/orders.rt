@@ -44,7 +44,11 @@ fn push_if(found: &mut Vec<usize>, is_so: bool, v: usize) -> Result<(), Memory>
 }
 
 /// The voices in which a cantus sounds.
-fn sounding(alloc: Global, cantus: &[Pitch], voices: &[List<Placed>]) -> Result<Vec<usize>, Memory>
+pub(crate) fn sounding(
+    alloc: Global,
+    cantus: &[Pitch],
+    voices: &[List<Placed>],
+) -> Result<Vec<usize>, Memory>
     ensures { IfOk result (λ found. found.items ≡ sounding cantus.now voices.now) }
 {
     let mut found = Vec::new(alloc);
@@ -56,7 +60,7 @@ fn sounding(alloc: Global, cantus: &[Pitch], voices: &[List<Placed>]) -> Result<
 }
 
 /// What a list has, where that is one thing.
-fn only(found: &[usize]) -> Option<usize>
+pub(crate) fn only(found: &[usize]) -> Option<usize>
     ensures { result ≡ only found.now }
 {
     let (one, others) = found.split_first()?;

@@ -13,12 +13,13 @@ ghost use Rattle.smf_answers.specs.Reading.{IsJoined, OfFile, ReadsAs, joined_no
 
 use crate::fault::JoinFault;
 use crate::joined::joined;
+use crate::manner::Manner;
 use crate::meters::{Signature, meter_of, signature_of};
+use crate::staves::voices_heard;
 use fux_grid::{Exercise, Score};
 use smf_bytes::{Events, open};
 use smf_score::{
-    Layout, Played, SmfFault, Stroke, next_event, notes_of, places_of, put_in_order,
-    stroke_of_event,
+    Layout, Played, SmfFault, Stroke, next_event, notes_of, put_in_order, stroke_of_event,
 };
 use std::alloc::{AllocError, Global};
 
@@ -69,16 +70,18 @@ fn heard_of(alloc: Global, events: &mut Events<'_>) -> Result<Heard, SmfFault>
 fn read_notes(
     alloc: Global,
     lesson: &Exercise,
+    legato: bool,
     division: u32,
     notes: &[Played],
 ) -> Result<Score, JoinFault>
     requires lesson { IsValid lesson.now }
     requires division { 0 < division }
     requires notes { All IsPlayed notes.now }
-    ensures value { Gives result (joined_notes lesson.now division notes.now) }
+    ensures value { Gives result (joined_notes lesson.now legato division
+        notes.now) }
     ensures given { IfOk result (IsGiven lesson.now) }
 {
-    let voices = places_of(alloc, division, notes)?;
+    let voices = voices_heard(alloc, lesson, legato, division, notes)?;
     joined(alloc, lesson, &voices)
 }
 
@@ -86,39 +89,41 @@ fn read_notes(
 fn read_events(
     alloc: Global,
     lesson: &Exercise,
-    top_first: bool,
+    manner: Manner,
     events: &mut Events<'_>,
 ) -> Result<Score, JoinFault>
     requires lesson { IsValid lesson.now }
     requires ticks { 0 < events.old.header.division }
-    ensures value { ReadsAs result (OfFile lesson.now top_first (file_seen events.old)) }
+    ensures value { ReadsAs result (OfFile lesson.now manner (file_seen events.old)) }
     ensures given { IfOk result (IsGiven lesson.now) }
 {
     let layout = Layout {
         format: events.format(),
-        top_first,
+        top_first: manner.top_first,
     };
     let division = events.division();
     let heard = heard_of(alloc, events)?;
     let wholes = meter_of(division, &heard.signatures)?;
     let mut notes = notes_of(alloc, layout, &heard.strokes)?;
     put_in_order(&mut notes)?;
-    read_notes(alloc, lesson, wholes * u32::from(division), &notes)
+    let division = wholes * u32::from(division);
+    read_notes(alloc, lesson, manner.legato, division, &notes)
 }
 
-/// The setting of a lesson that a MIDI file is, or the first fault of the file. The cantus firmus
-/// is found where it sounds in one voice of the file; where it isn't, the first track, or channel,
-/// is the lowest voice, or the highest if `top_first`.
+/// The setting of a lesson that a MIDI file is which was played in a manner, or the first fault of
+/// the file. The cantus firmus is found where it sounds in one voice of the file; where it isn't,
+/// the first track, or channel, is the lowest voice, or the highest if `manner` says so. Voices
+/// that share a track are told apart where they are as many as the lesson has.
 pub fn join_smf(
     alloc: Global,
     lesson: &Exercise,
     bytes: &[u8],
-    top_first: bool,
+    manner: Manner,
 ) -> Result<Score, JoinFault>
     requires { IsValid lesson.now }
-    ensures value { ReadsAs result (IsJoined lesson.now top_first bytes.now) }
+    ensures value { ReadsAs result (IsJoined lesson.now manner bytes.now) }
     ensures given { IfOk result (IsGiven lesson.now) }
 {
     let mut events = open(bytes)?;
-    read_events(alloc, lesson, top_first, &mut events)
+    read_events(alloc, lesson, manner, &mut events)
 }

@@ -138,7 +138,7 @@ output_is_there (on_mixed ex sheet named job) files name bytes output made one m
 output_is_there (certify ex sheet budget form) files name bytes output made one missing = omega (arith, one.1)
 output_is_there (explain file subject) files name bytes output made one missing = omega (arith, one.1)
 output_is_there (fromsmf file head) files name bytes output made one missing = omega (arith, one.1)
-output_is_there (join_smf lesson file top_first) files name bytes output made one missing = omega (arith, one.1)
+output_is_there (join_smf lesson file manner) files name bytes output made one missing = omega (arith, one.1)
 output_is_there (drill number by_sharper) files name bytes output made one missing = omega (arith, one.1)
 output_is_there (mark_answer file lesson) files name bytes output made one missing = omega (arith, one.1)
 output_is_there (class_files names) files name bytes output made one missing = omega (arith, one.1)
@@ -260,7 +260,7 @@ not_refused (on_mixed ex sheet named job) files bytes refusal made ready = ready
 not_refused (certify ex sheet budget form) files bytes refusal made ready = ready
 not_refused (explain file subject) files bytes refusal made ready = ready
 not_refused (fromsmf file head) files bytes refusal made ready = ready
-not_refused (join_smf lesson file top_first) files bytes refusal made ready = ready
+not_refused (join_smf lesson file manner) files bytes refusal made ready = ready
 not_refused (drill number by_sharper) files bytes refusal made ready = ready
 not_refused (mark_answer file lesson) files bytes refusal made ready = ready
 not_refused (class_files names) files bytes refusal made ready = ready

@@ -61,7 +61,7 @@ pub one_little : (kind : FileKind) (old now next place : ℕ) → now ≤ old + 
     → next ≤ now + (limit_of kind + 1) → next ≤ old + (limit_of kind + 1) * (place + 1)
 one_little read_as.Text old now next place before one = omega (arith, before, one)
 one_little read_as.Page old now next place before one = omega (arith, before, one)
-one_little (read_as.Midi top_first) old now next place before one = omega (arith, before, one)
+one_little (read_as.Midi manner) old now next place before one = omega (arith, before, one)
 
 pub whole_little : (files : Files) (list : List ℕ) (lesson : Option (List ℕ)) (kind : FileKind) (text : Content) (given : Option Content)
     (old first second new : ℕ) → AreRead 65536 files (list ∷ as_list lesson) (text ∷ as_list given)

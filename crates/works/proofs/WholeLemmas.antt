@@ -64,7 +64,7 @@ all_so files old new sought (name ∷ names) (saying ∷ sayings) so each = (
 never_unread : (sought : Sought) (bytes : List ℕ) → SaysOf sought bytes Unread → ⊥
 never_unread alone bytes is = is
 never_unread (answers lesson) bytes is = is
-never_unread (played lesson top_first) bytes is = is
+never_unread (played lesson manner) bytes is = is
 
 -- what is said of a file by what was read of it
 said_in : (limit : ℕ) (files now_files : Files) (failed : Type 0) (sought : Sought) (name : List ℕ)
@@ -134,9 +134,9 @@ pub alone_said : {E : Type 0} (kind : FileKind) (found : Option Content) (result
     → IfOk result (IsSaidOrUnread (IsSaid None) (limit_of kind) found)
 alone_said read_as.Text found result is = is
 alone_said read_as.Page found result is = is
-alone_said (read_as.Midi top_first) None result is = is
-alone_said (read_as.Midi top_first) (Some read) (Ok said) is = λ bytes content. is bytes (shorter read bytes content)
-alone_said (read_as.Midi top_first) (Some read) (Err fault) is = tt
+alone_said (read_as.Midi manner) None result is = is
+alone_said (read_as.Midi manner) (Some read) (Ok said) is = λ bytes content. is bytes (shorter read bytes content)
+alone_said (read_as.Midi manner) (Some read) (Err fault) is = tt
 
 -- ---- all files
 
@@ -145,7 +145,7 @@ pub by_copied : (kind : FileKind) (o : Option (Bor Exercise)) → is_by_lesson (
 by_copied kind None = refl
 by_copied read_as.Text (Some x) = refl
 by_copied read_as.Page (Some x) = refl
-by_copied (read_as.Midi top_first) (Some x) = refl
+by_copied (read_as.Midi manner) (Some x) = refl
 
 pub whole_is : (files : Files) (failed : Type 0) (sought : Sought) (names : List (List ℕ)) (old new : WholeReport)
     (count : ℕ) (output : Output) → length names ≡ count → AreSaid files failed sought names old
@@ -179,8 +179,8 @@ made_so : (files : Files) (old new : Type 0) (kind : FileKind) (lesson : Option 
 made_so files old new read_as.Text lesson names output so is =
     report_so files old new (sought_in read_as.Text lesson) names output so is
 made_so files old new read_as.Page lesson names output so is = page_so files old new lesson names output so is
-made_so files old new (read_as.Midi top_first) lesson names output so is =
-    report_so files old new (sought_in (read_as.Midi top_first) lesson) names output so is
+made_so files old new (read_as.Midi manner) lesson names output so is =
+    report_so files old new (sought_in (read_as.Midi manner) lesson) names output so is
 
 list_so : (files : Files) (old new : Type 0) (kind : FileKind) (lesson : Option Exercise) (list : List ℕ) (output : Output)
     → (old → new) → ReportsList files old kind lesson list output → ReportsList files new kind lesson list output

@@ -12,6 +12,7 @@ use Rattle.command_words.specs.declared.command.FileKind.{FileKind}
 use Rattle.command_words.specs.declared.command.FileKind.TheVariants as read_as
 use Rattle.fux_grid.specs.declared.exercise.Exercise.{Exercise}
 use Rattle.fux_port.specs.Files.{IsMissing, MayHave}
+use Rattle.smf_answers.specs.declared.manner.Manner.{Manner}
 use Rattle.works.specs.declared.refusal.Refusal.{Refusal}
 use Rattle.works.specs.declared.refusal.Refusal.TheVariants as refusal
 use Rattle.works.specs.declared.work.Output.{Output}
@@ -26,13 +27,13 @@ use Rattle.works.specs.Texts.{Work}
 pub data Sought : Type 0 where
   alone : Sought
   answers : (lesson : Exercise) → Sought
-  played : (lesson : Exercise) (top_first : Bool) → Sought
+  played : (lesson : Exercise) (manner : Manner) → Sought
 
 -- what is asked by a lesson
 abbrev pub sought_by : FileKind → Exercise → Sought
 sought_by read_as.Text lesson = answers lesson
 sought_by read_as.Page lesson = answers lesson
-sought_by (read_as.Midi top_first) lesson = played lesson top_first
+sought_by (read_as.Midi manner) lesson = played lesson manner
 
 -- by itself each file is a text
 abbrev pub sought_in : FileKind → Option Exercise → Sought
@@ -43,13 +44,13 @@ sought_in kind (Some lesson) = sought_by kind lesson
 abbrev pub is_by_lesson : Sought → Bool
 is_by_lesson alone = false
 is_by_lesson (answers lesson) = true
-is_by_lesson (played lesson top_first) = true
+is_by_lesson (played lesson manner) = true
 
 -- how many bytes of each file are read at most
 abbrev pub limit_of : FileKind → ℕ
 limit_of read_as.Text = 65536
 limit_of read_as.Page = 65536
-limit_of (read_as.Midi top_first) = 1048576
+limit_of (read_as.Midi manner) = 1048576
 
 -- ---- one file
 
@@ -57,7 +58,7 @@ limit_of (read_as.Midi top_first) = 1048576
 abbrev pub SaysOf : Sought → List ℕ → Said → Type 0
 SaysOf alone = IsSaid None
 SaysOf (answers lesson) = IsSaid (Some lesson)
-SaysOf (played lesson top_first) = IsSaidJoined lesson top_first
+SaysOf (played lesson manner) = IsSaidJoined lesson manner
 
 -- this is said of the bytes of a file
 pub record SaysFile (files : Option (List ℕ → Option (List ℕ))) (sought : Sought) (name : List ℕ) (said : Said)
@@ -107,8 +108,8 @@ abbrev pub IsMadeOf : Option (List ℕ → Option (List ℕ)) → Type 0 → Fil
     → Type 0
 IsMadeOf files failed read_as.Text lesson = IsWholeReport files failed (sought_in read_as.Text lesson)
 IsMadeOf files failed read_as.Page lesson = IsClassPage files failed lesson
-IsMadeOf files failed (read_as.Midi top_first) lesson =
-    IsWholeReport files failed (sought_in (read_as.Midi top_first) lesson)
+IsMadeOf files failed (read_as.Midi manner) lesson =
+    IsWholeReport files failed (sought_in (read_as.Midi manner) lesson)
 
 -- an output is what is made of the files that a list names
 pub record ReportsList (files : Option (List ℕ → Option (List ℕ))) (failed : Type 0) (kind : FileKind)

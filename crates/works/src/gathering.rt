@@ -78,7 +78,7 @@ fn say_answer(
     match kind {
         FileKind::Text => say(alloc, Some(lesson), found),
         FileKind::Page => say(alloc, Some(lesson), found),
-        FileKind::Midi { top_first } => say_joined(alloc, lesson, found, top_first),
+        FileKind::Midi { manner } => say_joined(alloc, lesson, found, manner),
     }
 }
 
@@ -186,8 +186,8 @@ fn report_names<F: Shelf>(
     match kind {
         FileKind::Text => told_names(alloc, lesson, FileKind::Text, names, shelf),
         FileKind::Page => page_names(alloc, lesson, names, shelf),
-        FileKind::Midi { top_first } => {
-            told_names(alloc, lesson, FileKind::Midi { top_first }, names, shelf)
+        FileKind::Midi { manner } => {
+            told_names(alloc, lesson, FileKind::Midi { manner }, names, shelf)
         }
     }
 }

@@ -24,7 +24,7 @@ use fux_grid::{Exercise, Score};
 use fux_pitch::Memory;
 use fux_port::Shelf;
 use fux_text::write;
-use smf_answers::{JoinFault, join_smf};
+use smf_answers::{JoinFault, Manner, join_smf};
 use smf_bytes::ByteFault;
 use smf_score::SmfFault;
 use std::alloc::Global;
@@ -46,15 +46,15 @@ fn text_output(alloc: Global, lesson: &Exercise, score: &Score) -> Result<Output
 }
 
 /// The note text of a lesson with the setting that a MIDI file is.
-fn joined(alloc: Global, lesson: &Exercise, file: &Text, top_first: bool) -> Result<Output, Stop>
+fn joined(alloc: Global, lesson: &Exercise, file: &Text, manner: Manner) -> Result<Output, Stop>
     requires { IsValid lesson.now }
     ensures { (bytes : List ℕ) → IsContent 1048576 file.now bytes
-        → Answers (Joins top_first bytes lesson.now) result }
+        → Answers (Joins manner bytes lesson.now) result }
 {
     let Text::Bytes(bytes) = file else {
         return Err(Stop::Refused(Refusal::Join { fault: TOO_LONG }));
     };
-    match join_smf(alloc, lesson, bytes, top_first) {
+    match join_smf(alloc, lesson, bytes, manner) {
         Ok(score) => Ok(text_output(alloc, lesson, &score)?),
         Err(fault) => match fault {
             JoinFault::Smf(fault) => match fault {
@@ -69,12 +69,12 @@ fn joined(alloc: Global, lesson: &Exercise, file: &Text, top_first: bool) -> Res
 }
 
 /// The same of the text of a lesson.
-fn of_texts(alloc: Global, given: &Text, file: &Text, top_first: bool) -> Result<Output, Stop>
+fn of_texts(alloc: Global, given: &Text, file: &Text, manner: Manner) -> Result<Output, Stop>
     ensures { (lessons bytes : List ℕ) → IsContent 1048576 given.now lessons
-        → IsContent 1048576 file.now bytes → Answers (JoinsSmf top_first lessons bytes) result }
+        → IsContent 1048576 file.now bytes → Answers (JoinsSmf manner lessons bytes) result }
 {
     let lesson = lesson_of(alloc, given)?;
-    joined(alloc, &lesson, file, top_first)
+    joined(alloc, &lesson, file, manner)
 }
 
 /// The note text of the lesson in a file with the setting that the MIDI file in another is.
@@ -82,20 +82,20 @@ pub fn join<'a, F: Shelf>(
     alloc: Global,
     lesson: &'a str,
     name: &'a str,
-    top_first: bool,
+    manner: Manner,
     shelf: &mut F,
 ) -> Result<Output, Complaint<'a>>
-    ensures made { IsMade (join_smf lesson.entry.now name.entry.now top_first)
+    ensures made { IsMade (join_smf lesson.entry.now name.entry.now manner)
         (F.files shelf.old) (Rose (F.faults shelf.old) (F.faults shelf.new)) result }
     ensures served { ServesTask (F.serves shelf.old) (F.files shelf.old)
-        (join_smf lesson.entry.now name.entry.now top_first) → IfErr result BlamesNoFile }
+        (join_smf lesson.entry.now name.entry.now manner) → IfErr result BlamesNoFile }
     ensures blamed { IfErr result (Blames (IsUnserved (F.serves shelf.old) (F.files shelf.old)
-        (join_smf lesson.entry.now name.entry.now top_first))) }
-    ensures little { ReadsLittle (join_smf lesson.entry.now name.entry.now top_first)
+        (join_smf lesson.entry.now name.entry.now manner))) }
+    ensures little { ReadsLittle (join_smf lesson.entry.now name.entry.now manner)
         (F.files shelf.old) (F.given shelf.old) (F.given shelf.new) }
     ensures files { F.files shelf.new ≡ F.files shelf.old }
 {
     let given = read_content(alloc, shelf, lesson, LONGEST_MIDI)?;
     let file = read_content(alloc, shelf, name, LONGEST_MIDI)?;
-    said(alloc, name, of_texts(alloc, &given, &file, top_first))
+    said(alloc, name, of_texts(alloc, &given, &file, manner))
 }

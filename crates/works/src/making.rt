@@ -101,8 +101,8 @@ pub fn make<'a, F: Shelf, R: Threads + Sync>(
         Making::JoinSmf {
             lesson,
             name,
-            top_first,
-        } => join(alloc, lesson, name, top_first, shelf),
+            manner,
+        } => join(alloc, lesson, name, manner, shelf),
         Making::Drill { number, by_sharper } => {
             said(alloc, "", drill(rt, alloc, number, by_sharper))
         }

@@ -7,7 +7,7 @@ returns-in_err-kind c =
       c.from_residual.ensures,
       ← c.value-lesson.ensures,
       ← c.is_set-is_midi.ensures,
-      ← c.is_set-top_first.ensures,
+      ← c.manner_of-manner.ensures,
       ← c.in_err-kind.ensures,
     ) refl
 
@@ -16,7 +16,7 @@ returns c =
     rw (
       ← c.value-lesson.ensures,
       ← c.is_set-is_midi.ensures,
-      ← c.is_set-top_first.ensures,
+      ← c.manner_of-manner.ensures,
       ← c.in_ok-kind.ensures,
       ← c.is_set.ensures,
     ) c.paged_of.ensures

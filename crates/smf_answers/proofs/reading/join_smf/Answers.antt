@@ -16,8 +16,8 @@ pub returns-clause-value : goal.returns-clause-value
 returns-clause-value c =
     let events = c.in_ok-events.events in
     let lesson = c.args.lesson.now in
-    let top_first = c.args.top_first in
-    reads_from (OfFile lesson top_first (file_seen events)) (IsJoined lesson top_first c.args.bytes.now)
+    let manner = c.args.manner in
+    reads_from (OfFile lesson manner (file_seen events)) (IsJoined lesson manner c.args.bytes.now)
     c.read_events.result
     (λ read h. (
       Ok (file_seen events),

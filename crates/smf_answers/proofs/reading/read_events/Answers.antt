@@ -17,13 +17,13 @@ returns-in_err-heard-clause-value c =
     let file = file_seen c.args.events.now in
     let fault = c.in_err-heard.field-0.0 in
     rw (p.1, p.2)
-    (reads_fault (OfFile c.args.lesson.now c.args.top_first file) fault (strokes_in file.answers)
-    c.in_err-heard.ensures.strokes (no_strokes c.args.lesson.now c.args.top_first file fault))
+    (reads_fault (OfFile c.args.lesson.now c.args.manner file) fault (strokes_in file.answers)
+    c.in_err-heard.ensures.strokes (no_strokes c.args.lesson.now c.args.manner file fault))
 
 pub returns-clause-value : goal.returns-clause-value
 returns-clause-value c =
     let lesson = c.args.lesson.now in
-    let top = c.args.top_first in
+    let manner = c.args.manner in
     let file = file_seen c.args.events.now in
     let strokes = c.in_ok-heard.heard.strokes.items in
     let wholes = c.in_ok-wholes.wholes in
@@ -35,12 +35,12 @@ returns-clause-value c =
     ∙ ap (meter_in division) (c.deref.ensures.value ∙ c.in_ok-heard.ensures.signatures) in
     let order = subst (λ (ns : List Played). IsInOrder ns notes)
     (c.in_ok-notes.ensures.value
-    ∙ ap (notes_in (record { format = c.format.result; top_first = top })) c.deref-2.ensures.value
-    ∙ ap (λ f. notes_in (record { format = f; top_first = top }) strokes) c.format.ensures)
+    ∙ ap (notes_in (record { format = c.format.result; top_first = manner.top_first })) c.deref-2.ensures.value
+    ∙ ap (λ f. notes_in (record { format = f; top_first = manner.top_first }) strokes) c.format.ensures)
     c.in_ok-put_in_order.ensures.order in
     let same =
-    ap (λ d. joined_notes lesson (wholes * d) c.deref-3.result.now) (c.from.ensures ∙ c.division-division.ensures)
-    ∙ ap (joined_notes lesson (wholes * division)) c.deref-3.ensures.value in
-    reads (OfFile lesson top file) c.read_notes.result (joined_notes lesson (wholes * division) notes)
+    ap (λ d. joined_notes lesson manner.legato (wholes * d) c.deref-3.result.now) (c.from.ensures ∙ c.division-division.ensures)
+    ∙ ap (joined_notes lesson manner.legato (wholes * division)) c.deref-3.ensures.value in
+    reads (OfFile lesson manner file) c.read_notes.result (joined_notes lesson manner.legato (wholes * division) notes)
     (subst (Gives c.read_notes.result) same c.read_notes.ensures.value)
-    (is_of_file lesson top file strokes wholes notes c.in_ok-heard.ensures.strokes (sym meter) order)
+    (is_of_file lesson manner file strokes wholes notes c.in_ok-heard.ensures.strokes (sym meter) order)

@@ -1,8 +1,8 @@
 use Rattle.std.proofs.Common.{sym, ap, ◌∙◌}
 use Rattle.std.proofs.lemmas.Result.{err_from_is_err_and}
-use Rattle.smf_score.specs.Placing.{voices_of, voices_placed}
 use Rattle.smf_answers.specs.Joined.{joined}
 use Rattle.smf_answers.specs.Reading.{joined_notes, joined_voices}
+use Rattle.smf_answers.specs.Staves.{voices_heard}
 use Rattle.smf_answers.proofs.FaultLemmas.{gives_as}
 use Rattle.smf_answers.proofs.ReadingLemmas.{fails_score}
 use Rattle.smf_answers.proofs.reading.read_notes.Goals as goal
@@ -13,13 +13,13 @@ returns-in_err-voices-clause-value c =
     let p = err_from_is_err_and c.from_residual.result c.from_residual.ensures.1 in
     rw (p.1, p.2)
     (fails_score c.args.lesson.now c.in_err-voices.field-0.0
-    (voices_placed c.args.division (voices_of c.args.notes.now)) c.in_err-voices.ensures.value)
+    (voices_heard c.args.lesson.now c.args.legato c.args.division c.args.notes.now) c.in_err-voices.ensures)
 
 pub returns-clause-value : goal.returns-clause-value
 unfolding joined_notes
 returns-clause-value c =
     let lesson = c.args.lesson.now in
     gives_as c.joined.result (joined lesson c.deref.result.now)
-    (joined_voices lesson (voices_placed c.args.division (voices_of c.args.notes.now)))
-    (ap (joined_voices lesson) c.in_ok-voices.ensures.value ∙ ap (joined lesson) (sym c.deref.ensures.value))
+    (joined_voices lesson (voices_heard c.args.lesson.now c.args.legato c.args.division c.args.notes.now))
+    (ap (joined_voices lesson) c.in_ok-voices.ensures ∙ ap (joined lesson) (sym c.deref.ensures.value))
     c.joined.ensures.value

@@ -14,7 +14,7 @@ pub returns-in_err-file-clause-made : goal.returns-in_err-file-clause-made
 returns-in_err-file-clause-made g c =
     let files = g.F.Shelf.files in
     let faults = g.F.Shelf.faults in
-    let task = join_smf c.args.lesson.now c.args.name.now c.args.top_first in
+    let task = join_smf c.args.lesson.now c.args.name.now c.args.manner in
     let told = err_from_is_err_and c.from_residual-in_err-file.result c.from_residual-in_err-file.ensures.1 in
     rw (told.1, told.2) (sheet_unread c.args.lesson.now (Some c.args.name.now)
     (files c.args.shelf.now) (files c.read_content.new.shelf)
@@ -32,13 +32,13 @@ returns-clause-made g c =
     let lesson = c.args.lesson.now in
     let given = c.in_ok-given.given in
     let file = c.in_ok-file.file in
-    made_said (join_smf lesson name c.args.top_first) (g.F.Shelf.files c.args.shelf.now) _
+    made_said (join_smf lesson name c.args.manner) (g.F.Shelf.files c.args.shelf.now) _
     (given ∷ file ∷ []) c.of_texts.result c.said.result (
       c.in_ok-given.ensures.reads,
       read_same 1048576 (g.F.Shelf.files c.args.shelf.now) _ (name ∷ []) (file ∷ [])
           c.in_ok-given.ensures.files (c.in_ok-file.ensures.reads, tt),
     )
-    (of_joining (g.F.Shelf.files c.args.shelf.now) lesson name c.args.top_first given file c.of_texts.result
+    (of_joining (g.F.Shelf.files c.args.shelf.now) lesson name c.args.manner given file c.of_texts.result
     c.of_texts.ensures)
     c.said.ensures.says
 
@@ -61,7 +61,7 @@ pub returns-in_err-given-clause-blamed : goal.returns-in_err-given-clause-blamed
 returns-in_err-given-clause-blamed g c =
     let told = err_from_is_err_and c.from_residual.result c.from_residual.ensures.1 in
     rw (told.1, told.2) (text_blames (IsUnserved (g.F.Shelf.serves c.args.shelf.now) (g.F.Shelf.files c.args.shelf.now)
-    (join_smf c.args.lesson.now c.args.name.now c.args.top_first)) 1048576 _ _
+    (join_smf c.args.lesson.now c.args.name.now c.args.manner)) 1048576 _ _
     (g.F.Shelf.serves c.args.shelf.now) c.args.lesson.now _
     c.in_err-given.ensures.reads c.in_err-given.ensures.served (λ denied. inl ((0, omega arith, refl), denied)))
 
@@ -69,7 +69,7 @@ pub returns-in_err-file-clause-blamed : goal.returns-in_err-file-clause-blamed
 returns-in_err-file-clause-blamed g c =
     let told = err_from_is_err_and c.from_residual-in_err-file.result c.from_residual-in_err-file.ensures.1 in
     rw (told.1, told.2) (text_blames (IsUnserved (g.F.Shelf.serves c.args.shelf.now) (g.F.Shelf.files c.args.shelf.now)
-    (join_smf c.args.lesson.now c.args.name.now c.args.top_first)) 1048576 _ _
+    (join_smf c.args.lesson.now c.args.name.now c.args.manner)) 1048576 _ _
     (g.F.Shelf.serves c.read_content.new.shelf) c.args.name.now _
     c.in_err-file.ensures.reads c.in_err-file.ensures.served (λ denied. inl (
       (1, omega arith, refl),
@@ -80,7 +80,7 @@ returns-in_err-file-clause-blamed g c =
 pub returns-clause-blamed : goal.returns-clause-blamed
 returns-clause-blamed g c =
     result_blames_none (IsUnserved (g.F.Shelf.serves c.args.shelf.now) (g.F.Shelf.files c.args.shelf.now)
-    (join_smf c.args.lesson.now c.args.name.now c.args.top_first)) c.said.result c.said.ensures.reads
+    (join_smf c.args.lesson.now c.args.name.now c.args.manner)) c.said.result c.said.ensures.reads
 
 pub returns-in_err-given-clause-little : goal.returns-in_err-given-clause-little
 returns-in_err-given-clause-little g c = inl (omega (arith, c.read_content.ensures.little))
