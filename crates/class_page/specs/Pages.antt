@@ -1,5 +1,5 @@
 -- The page of a class.
-use Rattle.std.specs.Prelude.{◌≡◌, ℕ, ◌+◌, ◌==◌, ◌&&◌, Bool, false, List, [], ◌∷◌, ◌++◌, Option, Some, None, codes, length, string_bytes}
+use Rattle.std.specs.Prelude.{◌≡◌, ℕ, ◌+◌, ◌==◌, ◌&&◌, Bool, false, List, [], ◌∷◌, ◌++◌, Option, Some, None, codes, length, string_bytes, if◌then◌else◌}
 use Rattle.std.specs.Fmt.{decimal}
 use Rattle.std.specs.List.{list_all}
 use Rattle.score_picture.specs.declared.symbols.TheConstants.{SYMBOLS}
@@ -49,9 +49,10 @@ row_of number named =
 
 -- ---- what is said of a file
 
--- a text as it stands
+-- a text as it stands, where there is any
 unfoldable pub pre : List ℕ → List ℕ
-pre text = codes "<pre>" ++ escaped text ++ codes "</pre>\n"
+pre text =
+    if length text == 0 then [] else codes "<pre>" ++ escaped text ++ codes "</pre>\n"
 
 -- a sentence
 unfoldable pub sentence : List ℕ → List ℕ

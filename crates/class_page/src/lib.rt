@@ -9,4 +9,4 @@ mod telling;
 
 pub use entry::{Entry, Shown};
 pub use page::{ClassPage, put_entry, whole_page};
-pub use telling::entry_of;
+pub use telling::{entry_of, shown_marks};

@@ -139,11 +139,14 @@ fn put_row(
     Ok(())
 }
 
-/// Appends a text as it stands.
+/// Appends a text as it stands, where there is any.
 #[tactic(auto, unfolding(crate::specs::Pages::pre))]
 fn put_pre(out: &mut Vec<u8>, text: &[u8]) -> Result<(), Memory>
     ensures { OnOk result (out.new.items ≡ out.old.items ++ pre text.now) }
 {
+    if text.is_empty() {
+        return Ok(());
+    }
     put(out, "<pre>")?;
     put_escaped(out, text)?;
     put(out, "</pre>\n")?;

@@ -38,7 +38,7 @@ fn shown_mark(mark: Mark) -> SheetMark
 }
 
 /// Marks as a sheet shows them.
-fn shown_marks(alloc: Global, marks: &[Mark]) -> Result<Vec<SheetMark>, Memory>
+pub fn shown_marks(alloc: Global, marks: &[Mark]) -> Result<Vec<SheetMark>, Memory>
     ensures { IfOk result (λ shown. shown.items ≡ map words.shown_mark marks.now) }
 {
     let mut shown = Vec::new(alloc);

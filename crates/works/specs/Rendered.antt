@@ -2,6 +2,7 @@
 -- its setting in another form.
 use Rattle.std.specs.Prelude.{◌≡◌, ℕ, Bool, List, Option, None, Some, Ok, Err, length, map, nat_lt, option_map, if◌then◌else◌}
 use Rattle.std.specs.Borrow.{Bor}
+use Rattle.class_page.specs.Entries.{shown_mark}
 use Rattle.fux_grid.specs.declared.exercise.Exercise.{Exercise}
 use Rattle.fux_grid.specs.Grid.{Grid}
 use Rattle.fux_judge.specs.Penalties.{penalty_of}
@@ -49,10 +50,6 @@ WritesSmf ex = Renders ex smf_of
 abbrev pub WritesXml : Exercise → Work → Type 0
 WritesXml ex (Ok output) = (output.bytes ≡ document ex ex None) × (output.verdict ≡ Favorable)
 WritesXml ex (Err refusal) = ⊥
-
--- a mark as a sheet shows it
-abbrev pub shown_mark : Mark → SheetMark
-shown_mark mark = record { bar = mark.bar; slot = mark.slot; rule = mark.rule; voices = mark.voices }
 
 -- an output is the document of an exercise with the notes of these marks in red, and with the title
 -- of the exercise by whose rules they are

@@ -1,14 +1,15 @@
 //! The commands `print`, `tosmf`, `toxml`, `markxml`, `picture` and `markpicture`.
 
-ghost use Rattle.std.specs.Prelude.{◌≡◌, IfOk, length, map, nat_lt};
+ghost use Rattle.std.specs.Prelude.{◌≡◌, IfOk, length, nat_lt};
 ghost use Rattle.fux_grid.specs.Exercises.{IsValid};
 ghost use Rattle.works.specs.Marked.{marks_verdict};
-ghost use Rattle.works.specs.Rendered.{MarksPicture, MarksXml, Pictures, Prints, ShowsMarks, WritesSmf, WritesXml, shown_mark, shown_penalty as penalty_shown};
+ghost use Rattle.works.specs.Rendered.{MarksPicture, MarksXml, Pictures, Prints, ShowsMarks, WritesSmf, WritesXml, shown_penalty as penalty_shown};
 ghost use Rattle.works.specs.Works.{Answers};
 
 use crate::charging::penalty_of;
 use crate::refusal::Refusal;
 use crate::work::{Output, Stop, Verdict};
+use class_page::shown_marks;
 use fux_grid::Exercise;
 use fux_pitch::Memory;
 use penalty_sheet::Sheet;
@@ -17,7 +18,6 @@ use score_picture::picture;
 use score_print::print_wrapped;
 use score_xml::score_xml;
 use std::alloc::Global;
-use written_notes::SheetMark;
 
 /// The printed score of an exercise: of its setting, or without one of the sheet to hand out; in
 /// systems where a width is given.
@@ -52,29 +52,6 @@ pub fn to_xml(alloc: Global, ex: &Exercise) -> Result<Output, Stop>
     ensures { Answers (WritesXml ex.now) result }
 {
     Ok(Output::of_text(Verdict::Favorable, score_xml(alloc, ex, ex, None)?))
-}
-
-/// A mark as a sheet shows it.
-fn shown_mark(mark: Mark) -> SheetMark
-    ensures { result ≡ shown_mark mark }
-{
-    SheetMark {
-        bar: mark.bar,
-        slot: mark.slot,
-        rule: mark.rule,
-        voices: mark.voices,
-    }
-}
-
-/// Marks as a sheet shows them.
-pub fn shown_marks(alloc: Global, marks: &[Mark]) -> Result<Vec<SheetMark>, Memory>
-    ensures { IfOk result (λ shown. shown.items ≡ map shown_mark marks.now) }
-{
-    let mut shown = Vec::new(alloc);
-    for mark in marks {
-        shown.push(shown_mark(*mark))?;
-    }
-    Ok(shown)
 }
 
 /// What marks say, all in all.

@@ -1,6 +1,0 @@
-use Rattle.std.proofs.Common.{◌≡◌, map, take}
-use Rattle.works.specs.Rendered.{shown_mark}
-use Rattle.works.proofs.rendering.shown_marks.Given as goal
-
-abbrev pub invariant-loop-mark : goal.invariant-loop-mark
-invariant-loop-mark l = l.shown.items ≡ map shown_mark (take l.mark-index l.marks)
