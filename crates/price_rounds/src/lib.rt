@@ -6,7 +6,9 @@
 mod keys;
 mod rounds;
 mod search;
+mod tuned;
 mod ways;
 mod woven;
 
 pub use search::search_best;
+pub use tuned::{Tuned, tuned_prices};

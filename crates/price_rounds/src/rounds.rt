@@ -30,6 +30,9 @@ const PATIENCE: u32 = 8;
 /// How many rounds look for the prices of the later part of a case.
 const LATER_ROUNDS: usize = 100;
 
+/// How far above the least sum a case's may be whose prices are sought for a later part.
+const FAR_ABOVE: i64 = 128;
+
 /// How many strikes of a pitch cost nothing.
 const FREE: i64 = 4;
 
@@ -573,6 +576,17 @@ fn least_case(bids: &[Bid]) -> Option<usize> {
     least
 }
 
+/// The least of the sums of all cases.
+fn least_sum(bids: &[Bid]) -> i64 {
+    let mut least = NONE;
+    for k in 0..bids.len() {
+        if let Some(bid) = bids.get(k) {
+            least = least.min(bid.sum);
+        }
+    }
+    least
+}
+
 /// Raises the prices of each case whose sum is within a unit of the least, for the later part.
 fn raise_all(
     alloc: Global,
@@ -582,12 +596,7 @@ fn raise_all(
     round: &mut Round,
     most: i64,
 ) -> Result<(), Memory> {
-    let mut least = NONE;
-    for k in 0..bids.len() {
-        if let Some(bid) = bids.get(k) {
-            least = least.min(bid.sum);
-        }
-    }
+    let least = least_sum(bids);
     let unit = i64::from(SCALE);
     let floor = (least.wrapping_add(unit - 1) / unit - 1).wrapping_mul(unit);
     for k in 0..bids.len() {
@@ -601,6 +610,34 @@ fn raise_all(
                 bid.raise(alloc, &case, round, floor)?;
             }
         }
+    }
+    Ok(())
+}
+
+/// Appends the best prices of a case from behind so many steps on, or those that it has, where its
+/// sum is above this or no way goes on.
+fn put_later(
+    alloc: Global,
+    prices: &mut Vec<Prices>,
+    bid: &Bid,
+    case: &Case<'_>,
+    round: &mut Round,
+    steps: usize,
+    far: i64,
+) -> Result<(), Memory> {
+    if bid.sum <= far && bid.sum < NONE {
+        let later = bid.later(alloc, case, round, steps)?;
+        if later.sum < NONE {
+            return put_voices(prices, &later);
+        }
+    }
+    put_voices(prices, bid)
+}
+
+/// Appends the best prices of a case, voice by voice.
+fn put_voices(prices: &mut Vec<Prices>, bid: &Bid) -> Result<(), Memory> {
+    for v in 0..4usize {
+        prices.push(bid.prices_of(v))?;
     }
     Ok(())
 }
@@ -667,13 +704,36 @@ impl Bids {
         raise_all(alloc, ways, charges, &mut self.bids, &mut round, most)
     }
 
+    /// The best prices of each case from behind so many steps of its least way on, four voices
+    /// each. A case whose sum is far above the least keeps those that it has.
+    pub fn later_prices(
+        &self,
+        alloc: Global,
+        ways: &Ways,
+        charges: &Charges,
+        steps: usize,
+    ) -> Result<Vec<Prices>, Memory> {
+        let mut round = Round::new(alloc, ways)?;
+        let far = least_sum(&self.bids).wrapping_add(FAR_ABOVE);
+        let mut prices = Vec::new(alloc);
+        for k in 0..self.bids.len() {
+            let case = Case {
+                ways,
+                summit: charges.summit(k),
+                most: self.most,
+            };
+            if let Some(bid) = self.bids.get(k) {
+                put_later(alloc, &mut prices, bid, &case, &mut round, steps, far)?;
+            }
+        }
+        Ok(prices)
+    }
+
     /// The best prices of each case, four voices each.
     pub fn prices(&self, alloc: Global) -> Result<Vec<Prices>, Memory> {
         let mut prices = Vec::new(alloc);
         for bid in &self.bids {
-            for v in 0..4usize {
-                prices.push(bid.prices_of(v))?;
-            }
+            put_voices(&mut prices, bid)?;
         }
         Ok(prices)
     }

@@ -43,12 +43,12 @@ const EDGES_OF_A_PREFIX: usize = 6;
 
 /// How many edges a web may have, which cost a part of what a prefix does each: so the budget bounds
 /// the webs as well.
-fn room_for(budget: u32) -> usize {
+pub(crate) fn room_for(budget: u32) -> usize {
     EDGES + EDGES_OF_A_PREFIX * budget as usize
 }
 
 /// The charges without prices, by which webs are made and prices are sought.
-fn plain_charges(alloc: Global, space: &SpeciesSpace<'_>) -> Result<Charges, Memory>
+pub(crate) fn plain_charges(alloc: Global, space: &SpeciesSpace<'_>) -> Result<Charges, Memory>
     ensures fair { IfOk result (λ charges. AreFairCharges charges space.now.sheet) }
     ensures small { IfOk result (λ charges. AreSmallCharges MOST_CHARGE charges) }
     ensures scale { IfOk result (λ charges. charges.scale ≡ SCALE) }

@@ -9,7 +9,7 @@ use crate::rounds::{Bids, MORE_ROUNDS, ROUNDS};
 use crate::ways::{Ways, ways_of};
 use fux_pitch::Memory;
 use open_ends::Keeps;
-use priced_floors::{Charges, Kept, PricedSpace};
+use priced_floors::{Charges, Kept, PricedSpace, Prices};
 use priced_paths::{Web, web_of};
 use species_space::SpeciesSpace;
 use std::alloc::Global;
@@ -129,5 +129,22 @@ impl Woven {
             }
             _ => Ok(()),
         }
+    }
+
+    /// The prices for what comes behind so many quarters of the least way, unless there are too
+    /// many ways.
+    pub fn later(
+        &self,
+        alloc: Global,
+        charges: &Charges,
+        bids: &Bids,
+        quarters: usize,
+    ) -> Result<Option<Vec<Prices>>, Memory> {
+        let Some(ways) = &self.ways else {
+            return Ok(None);
+        };
+        let steps = ways.depth.wrapping_mul(quarters) / 4;
+        let prices = bids.later_prices(alloc, ways, charges, steps)?;
+        Ok(Some(prices))
     }
 }
