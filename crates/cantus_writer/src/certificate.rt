@@ -3,19 +3,18 @@
 ghost use Rattle.std.specs.Prelude.{◌≡◌, ◌≢◌, ◌<◌, ◌≤◌, Err, OnOk, length};
 ghost use Rattle.cantus_law.specs.Certificates.{Holds, IsCantusCertificate};
 ghost use Rattle.cantus_law.specs.Writer.{claims_of};
-ghost use Rattle.cantus_writer.specs.Heads.{EndsUnwritten, FailsShort, said_with};
+ghost use Rattle.cantus_writer.specs.Heads.{said_with};
 ghost use Rattle.cantus_writer.specs.Writing.{written_certificate};
+ghost use Rattle.claim_writer.specs.Ends.{EndsUnwritten, FailsShort};
 ghost use Rattle.fux_port.specs.Counts.{Rose};
 ghost use Rattle.fux_port.specs.Written.{appended};
 
-use crate::beginning::begin;
 use crate::copy::case_of;
-use crate::write::{is_within, write_parts};
 use cantus_law::CantusCase;
 use cantus_space::CantusSpace;
 use cantus_text::cantus_head_text;
 use cert_text::CertWrite;
-use cert_tree::room_for_walk;
+use claim_writer::write_with_claims;
 use fux_pitch::Pitch;
 use fux_port::Sink;
 use std::alloc::Global;
@@ -47,18 +46,7 @@ fn write_for_case<K: Sink>(alloc: Global, case: &CantusCase, sink: &mut K) -> Re
     let Ok(text) = cantus_head_text(alloc, &case.head) else {
         return Err(CertWrite::Memory);
     };
-    let Ok(mut walk) = room_for_walk(alloc, case) else {
-        return Err(CertWrite::Memory);
-    };
-    begin(&mut walk, case);
-    if !is_within(&mut walk, case, text.len()) {
-        return Err(CertWrite::TooLong);
-    }
-    begin(&mut walk, case);
-    match write_parts(&mut walk, case, text.as_str(), sink) {
-        Ok(()) => Ok(()),
-        Err(_) => Err(CertWrite::WriteFault),
-    }
+    write_with_claims(alloc, case, text.as_str(), sink)
 }
 
 /// Writes the certificate of the best cantus with its penalty, or the one that says that no cantus

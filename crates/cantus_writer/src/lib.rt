@@ -2,10 +2,7 @@
 //! claim that is true of it.
 #![tactic(auto)]
 
-mod beginning;
 mod certificate;
 mod copy;
-mod next_claims;
-mod write;
 
 pub use certificate::certify_cantus;

@@ -4,8 +4,9 @@ use Rattle.cert_text.specs.declared.answers.CertWrite.TheVariants.{WriteFault}
 use Rattle.cantus_law.specs.Claims.{Said}
 use Rattle.cantus_law.proofs.WrittenCantus.{written_is_valid}
 use Rattle.cantus_space.specs.declared.plan.CantusPlan.{CantusPlan}
-use Rattle.cantus_writer.specs.Heads.{FailsShort, said_with}
+use Rattle.cantus_writer.specs.Heads.{said_with}
 use Rattle.cantus_writer.specs.Writing.{written_certificate}
+use Rattle.claim_writer.specs.Ends.{FailsShort}
 use Rattle.fux_port.specs.Written.{appended}
 use Rattle.cantus_writer.proofs.certificate.certify_cantus.Goals as goal
 
