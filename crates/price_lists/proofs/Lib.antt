@@ -1,0 +1,5 @@
+pub mod Told
+pub mod Bounds
+pub mod Keys
+pub mod Fit
+pub mod SameFloors
