@@ -1,7 +1,7 @@
 //! What no row of `stored_runs` can say of the texts and the files that are read and written:
-//! claims and entries in pieces of every size, heads of certificates, the events of a MIDI file and
-//! the longest one, documents with marks of any kind, and texts that are written again. They stand
-//! above the crates that they try, so that what carries the proofs is proved once.
+//! claims and entries in pieces of every size, heads of certificates, the events of a MIDI file, a
+//! document with marks of any kind, and texts that are written again. They stand above the crates
+//! that they try, so that what carries the proofs is proved once.
 #![tactic(auto)]
 
 #[cfg(test)]
@@ -12,8 +12,6 @@ mod claims;
 mod documents;
 #[cfg(test)]
 mod documents_table;
-#[cfg(test)]
-mod drills;
 #[cfg(test)]
 mod heads;
 #[cfg(test)]

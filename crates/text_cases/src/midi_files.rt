@@ -1,13 +1,6 @@
-//! The longest MIDI file, and the events of a file. What is read of files stands in the rows
-//! `forms` of `stored_runs`.
+//! The events of a MIDI file. What is read of files stands in rows of `stored_runs`.
 
-ghost use Rattle.smf_score.specs.Heads.{IsHead};
-
-use fux_grid::Head;
-use fux_pitch::Mode;
-use smf_bytes::{ByteFault, Kind, open};
-use smf_score::{SmfFault, from_smf};
-use std::alloc::Global;
+use smf_bytes::{Kind, open};
 use std::test::Fail;
 
 /// A cantus and a voice above it in three bars, as an editor writes them: a track of the tempo,
@@ -16,36 +9,6 @@ const EDITED: &[u8] = b"MThd\x00\x00\x00\x06\x00\x01\x00\x03\x01\xe0\
     MTrk\x00\x00\x00\x0b\x00\xff\x51\x03\x07\xa1\x20\x00\xff\x2f\x00\
     MTrk\x00\x00\x00\x1f\x00\xff\x03\x01\x43\x00\x90\x3e\x50\x8e\x7f\x3e\x00\x01\x40\x50\x8e\x7f\x40\x00\x01\x3e\x50\x8e\x7f\x3e\x00\x00\xff\x2f\x00\
     MTrk\x00\x00\x00\x1a\x00\x91\x4a\x50\x8e\x7f\x4a\x00\x01\x49\x50\x8e\x7f\x49\x00\x01\x4a\x50\x8e\x7f\x4a\x00\x00\xff\x2f\x00";
-
-/// The head of these voices: the first species above the cantus.
-const HEAD: Head = Head {
-    mode: Mode::Dorian,
-    species: 1,
-    species_voice: 1,
-    cantus_voice: 0,
-    top_first: false,
-};
-
-/// How many bars a file has, 0 where it is too long, and nothing where it has another fault.
-fn bars_of(alloc: Global, bytes: &[u8], head: &Head) -> Option<u8>
-    requires { IsHead head.now }
-{
-    match from_smf(alloc, bytes, head) {
-        Ok(ex) => Some(ex.bars),
-        Err(SmfFault::Bytes(ByteFault::TooLong)) => Some(0),
-        Err(_) => None,
-    }
-}
-
-#[test]
-fn reads_the_longest_file(rt: HostRuntime) -> Result<(), Fail> {
-    let mut bytes = Vec::from_slice(rt.alloc(), EDITED)?;
-    bytes.resize(1_048_576, 0)?;
-    assert!(rt; bars_of(rt.alloc(), &bytes, &HEAD) == Some(3));
-    bytes.push(0)?;
-    assert!(rt; bars_of(rt.alloc(), &bytes, &HEAD) == Some(0));
-    Ok(())
-}
 
 #[test]
 fn tells_the_events(rt: HostRuntime) -> Result<(), Fail> {
