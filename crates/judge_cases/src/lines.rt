@@ -82,17 +82,18 @@ fn compare(
 ) -> Result<(), Fail> {
     let ex = exercise_of(alloc, EXERCISE, 4)?;
     let score = sung(alloc, line, v)?;
-    assert!(rt; score.len() > 0 && score.len() <= 8 * usize::from(ex.bars));
-    assert!(rt; score.voices() == ex.voices);
+    if score.is_empty() || score.len() > 8 * usize::from(ex.bars) || score.voices() != ex.voices {
+        return Err("another size".into());
+    }
     let last = score.len() - 1;
     let mut found = String::new(alloc);
     add_found(&mut found, asked, &ex, &score, last)?;
-    if stands {
-        let wanted = wanted_of(alloc, asked, last, v)?;
-        agree(rt, line, found.as_str(), wanted.as_str());
+    let wanted = if stands {
+        wanted_of(alloc, asked, last, v)?
     } else {
-        agree(rt, line, found.as_str(), "");
-    }
+        String::new(alloc)
+    };
+    agree(rt, line, found.as_str(), wanted.as_str());
     Ok(())
 }
 

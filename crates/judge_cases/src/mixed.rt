@@ -56,7 +56,9 @@ fn compare(
     requires few { length score.now.columns ≤ columns_in ex.now }
 {
     judge(rt, alloc, ex, score, text)?;
-    assert!(rt; score.len() == 8 * usize::from(ex.bars));
+    if score.len() != 8 * usize::from(ex.bars) {
+        return Err("no whole score".into());
+    }
     let found = marks(alloc, ex, score)?;
     agree(rt, text, shown(alloc, &found)?.as_str(), wanted);
     Ok(())

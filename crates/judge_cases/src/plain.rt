@@ -10,111 +10,111 @@
 //! is the lowest one where a bar begins with a tie, and S3 is tried in the voice of the species: no
 //! menu breaks it elsewhere.
 
-ghost use Rattle.std.specs.Prelude.{◌≡◌, ◌≤◌, length};
+ghost use Rattle.std.specs.Prelude.{◌≡◌, ◌≤◌, length, true};
 ghost use Rattle.fux_grid.specs.Exercises.{IsValid, columns_in};
+ghost use Rattle.judge_cases.specs.Between.{IsPart};
 
 use crate::agree::holds;
+use crate::breaks::{newly_broken, settled_breaks};
+use crate::charges::{newly_paid, settled_charges};
 use crate::parts::parts;
 use crate::{four_voices, tables, three_voices, two_voices};
 use fux_grid::{Exercise, Score};
 use fux_judge::{State, Verdict, penalty, step};
 use penalty_sheet::{Sheet, default_sheet};
-use plain_judge::{newly_broken, newly_paid, settled_breaks, settled_charges};
 use rule_law::RuleSet;
 use short_scores::case_of;
 use std::alloc::Global;
 use std::process::Abort;
 use std::test::Fail;
 
-/// The rules and tolls that are read among the newest columns.
-const LATE_RULES: [u8; 11] = [3, 15, 18, 19, 20, 21, 22, 23, 25, 27, 28];
+/// The rules that are read among the newest columns: 3, 15, 18 to 23, 25, 27 and 28.
+const LATE_RULES: u32 = 0x1AFC_8008;
 
-/// Compares the judge's verdict of a longer score's last column with the plain reading, and answers
-/// the rules that are newly broken. Where a break of S3 is settled before it, the judge promises
-/// nothing of late rules and of costs, so it isn't asked.
-fn compare(
-    rt: &impl Abort,
-    ex: &Exercise,
-    sheet: &Sheet,
-    verdict: &Verdict,
-    prefix: &Score,
-    longer: &Score,
-    orderly: bool,
-) -> RuleSet
-    requires valid { IsValid ex.now }
-{
-    let columns = 8 * usize::from(ex.bars);
-    assert!(rt; prefix.voices() == ex.voices && prefix.len() <= columns);
-    assert!(rt; longer.voices() == ex.voices && longer.len() <= columns);
-    assert!(rt; longer.len() == prefix.len() + 1);
-    let broken = newly_broken(ex, prefix, longer);
-    if orderly {
-        assert!(rt; verdict.paid == newly_paid(ex, sheet, prefix, longer));
-    }
-    for rule in 0..32u8 {
-        if orderly || !LATE_RULES.contains(&rule) {
-            assert!(rt; verdict.broken.has(rule) == broken.has(rule));
-        }
-    }
-    broken
+/// What comes of a score that is judged column by column.
+enum Judged {
+    /// The judge says something else of a column than the plain reading.
+    Otherwise,
+    /// The score breaks S3, so that no penalty is asked.
+    Disorderly,
+    /// What is paid of it, and what its lines cost.
+    Orderly { paid: u64, lines: u64 },
 }
 
-/// Compares what the judge found and charged of a score, column by column, with the plain reading
-/// of all of it.
-fn compare_sums(
-    rt: &impl Abort,
-    ex: &Exercise,
-    sheet: &Sheet,
-    score: &Score,
-    broken: RuleSet,
-    paid: u64,
-)
-    requires valid { IsValid ex.now }
+/// Whether a score may be one of the exercise, whole or in part.
+fn is_part(ex: &Exercise, score: &Score) -> bool
+    ensures { result ≡ true → IsPart ex.now score.now }
 {
-    assert!(rt; score.voices() == ex.voices && score.len() <= 8 * usize::from(ex.bars));
-    assert!(rt; settled_breaks(ex, score) == broken);
-    assert!(rt; settled_charges(ex, sheet, score) == paid);
+    score.voices() == ex.voices && score.len() <= 8 * usize::from(ex.bars)
+}
+
+/// Whether a verdict of a column has the rules that are newly broken by the plain reading, and what
+/// is newly paid. Where a break of S3 is settled before it, the judge promises nothing of late
+/// rules and of costs, so it isn't asked.
+fn is_judged(verdict: &Verdict, broken: RuleSet, paid: u64, orderly: bool) -> bool {
+    let differing = verdict.broken.bits ^ broken.bits;
+    if orderly {
+        differing == 0 && verdict.paid == paid
+    } else {
+        differing & !LATE_RULES == 0
+    }
+}
+
+/// Whether the judge found and charged of a score, column by column, what the plain reading of all
+/// of it does.
+fn is_summed(ex: &Exercise, sheet: &Sheet, score: &Score, broken: RuleSet, paid: u64) -> bool
+    requires valid { IsValid ex.now }
+    requires part { IsPart ex.now score.now }
+{
+    settled_breaks(ex, score) == broken && settled_charges(ex, sheet, score) == paid
 }
 
 /// Judges a score column by column, each as the plain reading of the scores without it and with it
-/// does, and answers what is paid of it and what its lines cost; nothing where it breaks S3.
-pub fn walk(
-    rt: &impl Abort,
-    alloc: Global,
-    ex: &Exercise,
-    sheet: &Sheet,
-    score: &Score,
-) -> Result<Option<(u64, u64)>, Fail>
+/// does.
+fn walk(alloc: Global, ex: &Exercise, sheet: &Sheet, score: &Score) -> Result<Judged, Fail>
     requires valid { IsValid ex.now }
+    requires voices { score.now.voices ≡ ex.now.voices }
 {
-    assert!(rt; score.voices() == ex.voices && score.len() == 8 * usize::from(ex.bars));
     let mut state = State::start(ex);
     let mut prefix = Score::new(alloc, ex.voices)?;
     let mut longer = Score::new(alloc, ex.voices)?;
     let mut broken = RuleSet::EMPTY;
-    let mut sum = 0u64;
-    let mut least = 0u64;
+    let mut paid = 0u64;
+    let mut lines = 0u64;
     for i in 0..score.len() {
-        assert!(rt; state.len() == i && i < 8 * usize::from(ex.bars));
+        if state.len() != i || i >= 8 * usize::from(ex.bars) {
+            return Err("no place".into());
+        }
         let verdict = step(ex, sheet, &state, score.column(i));
         longer.push(score.column(i).clone()?)?;
+        if !is_part(ex, &prefix) || !is_part(ex, &longer) {
+            return Err("no part".into());
+        }
         let orderly = !broken.has(3);
-        let new = compare(rt, ex, sheet, &verdict, &prefix, &longer, orderly);
+        let new = newly_broken(ex, &prefix, &longer);
+        if !is_judged(
+            &verdict,
+            new,
+            newly_paid(ex, sheet, &prefix, &longer),
+            orderly,
+        ) {
+            return Ok(Judged::Otherwise);
+        }
         prefix.push(score.column(i).clone()?)?;
         broken = RuleSet {
             bits: broken.bits | new.bits,
         };
-        sum = sum.saturating_add(verdict.paid);
-        least = verdict.least;
-        if i % 8 == 7 && !broken.has(3) {
-            compare_sums(rt, ex, sheet, &longer, broken, sum);
+        paid = paid.saturating_add(verdict.paid);
+        lines = verdict.least;
+        if i % 8 == 7 && !broken.has(3) && !is_summed(ex, sheet, &longer, broken, paid) {
+            return Ok(Judged::Otherwise);
         }
         state = verdict.state;
     }
     if broken.has(3) {
-        return Ok(None);
+        return Ok(Judged::Disorderly);
     }
-    Ok(Some((sum, least)))
+    Ok(Judged::Orderly { paid, lines })
 }
 
 /// Judges a score as the whole, and answers what is paid of it. Where it breaks S3 no penalty is
@@ -131,12 +131,21 @@ pub fn judge(
     requires few { length score.now.columns ≤ columns_in ex.now }
 {
     let sheet = default_sheet();
-    let Some((paid, lines)) = walk(rt, alloc, ex, &sheet, score)? else {
-        return Ok(None);
-    };
-    let sum = paid.saturating_add(lines);
-    holds(rt, text, penalty(ex, &sheet, score) == Some(sum));
-    Ok(Some(paid))
+    if score.len() != 8 * usize::from(ex.bars) {
+        return Err("no whole score".into());
+    }
+    match walk(alloc, ex, &sheet, score)? {
+        Judged::Otherwise => {
+            holds(rt, text, false);
+            Ok(None)
+        }
+        Judged::Disorderly => Ok(None),
+        Judged::Orderly { paid, lines } => {
+            let sum = paid.saturating_add(lines);
+            holds(rt, text, penalty(ex, &sheet, score) == Some(sum));
+            Ok(Some(paid))
+        }
+    }
 }
 
 /// Whether so much is paid, where both are told.

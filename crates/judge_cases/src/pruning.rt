@@ -11,12 +11,10 @@ use fux_judge::{State, is_always_dead, pruned_within, step};
 use penalty_sheet::default_sheet;
 use short_scores::case_of;
 use std::alloc::Global;
-use std::fmt::Write;
-use std::process::Abort;
 use std::test::Fail;
 
 /// The state after the first columns of a score. What is held prunes no column, whatever the limit.
-fn after(rt: &impl Abort, ex: &Exercise, score: &Score, columns: usize) -> State
+fn after(ex: &Exercise, score: &Score, columns: usize) -> Result<State, Fail>
     requires valid { IsValid ex.now }
     requires voices { score.now.voices ≡ ex.now.voices }
     requires within { columns ≤ length score.now.columns }
@@ -25,57 +23,84 @@ fn after(rt: &impl Abort, ex: &Exercise, score: &Score, columns: usize) -> State
     let mut state = State::start(ex);
     for i in 0..columns {
         let column = score.column(i);
-        assert!(rt; state.newest.len < 8 * usize::from(ex.bars));
+        if state.newest.len >= 8 * usize::from(ex.bars) {
+            return Err("too long".into());
+        }
         if i % 8 > 0 {
             let broken = pruned_within(ex, &sheet, &state, column, 0, None);
             let costly = pruned_within(ex, &sheet, &state, column, 4, Some(0));
-            assert!(rt; broken.is_none() && costly.is_none());
+            if broken.is_some() || costly.is_some() {
+                return Err("pruned".into());
+            }
         }
         state = step(ex, &sheet, &state, column).state;
     }
-    state
+    Ok(state)
 }
 
-/// How many of the lowest voices prune the last column of a score, by what they break or by what
-/// they cost; whether it is dead by its sound alone, and what a step says.
-fn compare(
-    rt: &impl Abort,
+/// How many of the lowest voices prune the column of a number by what they break, and whether it is
+/// dead by its sound alone; a step has to say so too.
+fn broken_text(
     alloc: Global,
     ex: &Exercise,
-    score: &Score,
-    wanted: &str,
-) -> Result<(), Fail>
+    state: &State,
+    column: &Column,
+    i: usize,
+) -> Result<String, Fail>
+    requires valid { IsValid ex.now }
+    requires room { state.now.newest.len < columns_in ex.now }
+    requires full { length column.now.items ≡ ex.now.voices }
+    requires place { i < columns_in ex.now }
+{
+    let sheet = default_sheet();
+    let broken = pruned_within(ex, &sheet, state, column, 0, None);
+    let dead = is_always_dead(ex, i, column);
+    if step(ex, &sheet, state, column).breaks() != (dead || broken.is_some()) {
+        return Err("not as a step says".into());
+    }
+    Ok(format!(in alloc; "\nbroken within {broken:?}, always dead {dead}")?)
+}
+
+/// How many of the lowest voices prune a column by what they cost within a limit.
+fn costly_text(
+    alloc: Global,
+    ex: &Exercise,
+    state: &State,
+    column: &Column,
+    limit: &str,
+) -> Result<String, Fail>
+    requires valid { IsValid ex.now }
+    requires room { state.now.newest.len < columns_in ex.now }
+    requires full { length column.now.items ≡ ex.now.voices }
+{
+    let sheet = default_sheet();
+    let costly = pruned_within(ex, &sheet, state, column, 4, limit.parse::<u64>().ok());
+    Ok(format!(in alloc; "\nlimit {limit}, costly within {costly:?}")?)
+}
+
+/// What prunes the last column of a score: what it breaks, or what it costs where a limit is
+/// wanted.
+fn pruned_text(alloc: Global, ex: &Exercise, score: &Score, wanted: &str) -> Result<String, Fail>
     requires valid { IsValid ex.now }
     requires voices { score.now.voices ≡ ex.now.voices }
 {
-    assert!(rt; !score.is_empty());
+    if score.is_empty() {
+        return Err("no column".into());
+    }
     let last = score.len() - 1;
+    let state = after(ex, score, last)?;
+    let columns = 8 * usize::from(ex.bars);
+    if state.newest.len >= columns || last >= columns {
+        return Err("too long".into());
+    }
     let column = score.column(last);
-    let state = after(rt, ex, score, last);
-    assert!(rt; state.newest.len < 8 * usize::from(ex.bars));
-    assert!(rt; last < 8 * usize::from(ex.bars));
-    let sheet = default_sheet();
-    let mut found = String::new(alloc);
     match wanted.split_once("limit ") {
-        None => {
-            let broken = pruned_within(ex, &sheet, &state, column, 0, None);
-            let dead = is_always_dead(ex, last, column);
-            let breaks = step(ex, &sheet, &state, column).breaks();
-            assert!(rt; breaks == (dead || broken.is_some()));
-            write!(found, "\nbroken within {broken:?}, always dead {dead}")?;
-        }
+        None => broken_text(alloc, ex, &state, column, last),
         Some((_, limit)) => {
             let (limit, _) = limit.split_once(',').ok_or("no limit")?;
-            let limit = limit.parse::<u64>().ok();
-            let costly = pruned_within(ex, &sheet, &state, column, 4, limit);
-            match limit {
-                Some(limit) => write!(found, "\nlimit {limit}, costly within {costly:?}")?,
-                None => write!(found, "\nlimit none, costly within {costly:?}")?,
-            }
+            costly_text(alloc, ex, &state, column, limit)
         }
     }
-    agree(rt, wanted, found.as_str(), wanted);
-    Ok(())
 }
 
 #[test]
@@ -83,7 +108,8 @@ fn the_lowest_voices_prune_columns(rt: HostRuntime) -> Result<(), Fail> {
     for text in COLUMNS.split("\n\n") {
         let (text, wanted) = parts(text)?;
         let case = case_of(rt.alloc(), text)?;
-        compare(&rt, rt.alloc(), &case.exercise, &case.score, wanted)?;
+        let found = pruned_text(rt.alloc(), &case.exercise, &case.score, wanted)?;
+        agree(&rt, text, found.as_str(), wanted);
     }
     Ok(())
 }

@@ -5,7 +5,7 @@ use Rattle.fux_judge.specs.States.{IsStateOf}
 use Rattle.judge_cases.proofs.plain.walk.Goals as goal
 
 pub loop-i-preserved : goal.loop-i-preserved
-loop-i-preserved g c =
+loop-i-preserved c =
     let columns : List (List Cell) = c.args.score.now.columns in
     let IsState : List (List Cell) → Type 0 = λ p. IsStateOf c.args.ex.now p c.step-verdict.result.state in
     record {
