@@ -1,5 +1,6 @@
 -- What a search finds in a sharpened tree is so of the tree itself (`found_from_sharpened`,
 -- `bounds_from_sharpened`), and what was found agrees with every answer (`agrees_from_facts`).
+use Rattle.std.specs.Prelude.{Result, Ok, Err, IfOk}
 use Rattle.std.proofs.Common.{◌≡◌, ℕ, ◌+◌, List, Option, Some, None, IsSome, refl, arith}
 use Rattle.tree_search.specs.Answer.{IsLeaf, IsFirstLeast, HasNoLeaf, BoundsLeaves, IsLoaded, IsLiveBelowRoot, IsOverBudget}
 use Rattle.tree_search.specs.Outcomes.{IfFound, IfSpent, IsSpent, OnNothing}
@@ -18,6 +19,18 @@ pub agrees_from_facts : (live : List ℕ → Option ℕ) (height : ℕ) (outcome
     → AgreesWithAnswers live height outcome
 agrees_from_facts live height outcome found nothing unspent other answer =
     outcomes_agree live height outcome other record { found = found; nothing = nothing; unspent = unspent } answer
+
+-- what follows of an outcome follows where there is one
+pub on_ok : {E : Type 0} (P Q : Outcome → Type 0) → ((outcome : Outcome) → P outcome → Q outcome)
+    → (result : Result Outcome E) → IfOk result P → IfOk result Q
+on_ok P Q f (Ok outcome) h = f outcome h
+on_ok P Q f (Err e) h = h
+
+-- and what follows of it from two facts
+pub on_ok₂ : {E : Type 0} (P R Q : Outcome → Type 0) → ((outcome : Outcome) → P outcome → R outcome → Q outcome)
+    → (result : Result Outcome E) → IfOk result P → IfOk result R → IfOk result Q
+on_ok₂ P R Q f (Ok outcome) h k = f outcome h k
+on_ok₂ P R Q f (Err e) h k = h
 
 pub not_spent : (outcome : Outcome) → ((bound : ℕ) → outcome ≡ Spent bound → ⊥) → IsSpent outcome → ⊥
 not_spent (Found path value) h spent = spent

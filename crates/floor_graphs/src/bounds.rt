@@ -63,14 +63,39 @@ fn search_rounds<S: Space>(
     Ok(Outcome::Spent { bound: low })
 }
 
-/// The first leaf of least value. A front opens each node whose floor is at most that value, and
-/// where floors are sharp there may be very many of the very same floor. So here a front has a
-/// small part of the budget at first, for a bound of all leaves. Then come rounds in depth, which
-/// leave out what is above a cap: where the bound is the least value, a round is done with the
+/// A try for the first leaf of least value. A front opens each node whose floor is at most that
+/// value, and where floors are sharp there may be very many of the very same floor. So here a front
+/// has a small part of the budget at first, for a bound of all leaves. Then come rounds in depth,
+/// which leave out what is above a cap: where the bound is the least value, a round is done with the
 /// first leaf that it meets. They look for one value after another at first, and for more and more
-/// at once later on, so that a tree without leaves doesn't take too many of them. Each may spend
-/// the whole budget. Where they come to nothing, the front has the whole budget. A bound that is
-/// known of all leaves already is where the rounds begin at least.
+/// at once later on, so that a tree without leaves doesn't take too many of them. Each may spend the
+/// whole budget. A bound that is known of all leaves already is where the rounds begin at least.
+/// A try may be spent where a front with that budget isn't.
+pub fn try_by_bounds<S: Space>(
+    alloc: Global,
+    space: &S,
+    known: u64,
+    budget: u32,
+) -> Result<Outcome, Memory>
+    requires { BoundsLeaves (S.live space.now) (S.height space.now) known }
+    ensures found { IfOk result (λ outcome. IfFound outcome (IsFirstLeast (S.live space.now)
+        (S.height space.now))) }
+    ensures nothing { IfOk result
+        (λ outcome. OnNothing outcome (HasNoLeaf (S.live space.now) (S.height space.now))) }
+    ensures bound { IfOk result (λ outcome. IfSpent outcome (BoundsLeaves (S.live space.now)
+        (S.height space.now))) }
+    ensures kept { IfOk result (λ outcome. IfSpent outcome (λ least. known ≤ least)) }
+    ensures agrees { IfOk result (AgreesWithAnswers (S.live space.now) (S.height space.now)) }
+{
+    let bound = match search_front(alloc, space, budget.min(FIRST_BUDGET))? {
+        Outcome::Spent { bound } => bound.max(known),
+        answer => return Ok(answer),
+    };
+    search_rounds(alloc, space, bound, budget)
+}
+
+/// The first leaf of least value: a try, and where that comes to nothing, a front with the whole
+/// budget, which has the last word.
 pub fn search_by_bounds<S: Space>(
     alloc: Global,
     space: &S,
@@ -91,11 +116,7 @@ pub fn search_by_bounds<S: Space>(
         (S.height space.now) budget) }
     ensures agrees { IfOk result (AgreesWithAnswers (S.live space.now) (S.height space.now)) }
 {
-    let bound = match search_front(alloc, space, budget.min(FIRST_BUDGET))? {
-        Outcome::Spent { bound } => bound.max(known),
-        answer => return Ok(answer),
-    };
-    let bound = match search_rounds(alloc, space, bound, budget)? {
+    let bound = match try_by_bounds(alloc, space, known, budget)? {
         Outcome::Spent { bound } => bound,
         answer => return Ok(answer),
     };

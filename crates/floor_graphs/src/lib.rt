@@ -9,9 +9,9 @@ mod guide;
 mod search;
 mod sharpened;
 
-pub use bounds::search_by_bounds;
+pub use bounds::{search_by_bounds, try_by_bounds};
 pub use capped::Capped;
 pub use graph::{Graph, least_numbers, lesser};
 pub use guide::Guide;
-pub use search::search_sharpened;
+pub use search::{search_sharpened, try_sharpened};
 pub use sharpened::{Sharp, Sharpened};

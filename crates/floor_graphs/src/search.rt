@@ -6,12 +6,36 @@ ghost use Rattle.tree_search.specs.Outcomes.{IfFound, OnNothing, IfSpent, IsSpen
 ghost use Rattle.floor_graphs.specs.Sameness.{AgreesWithAnswers};
 ghost use Rattle.floor_graphs.specs.Sharper.{sharpened};
 
-use crate::bounds::search_by_bounds;
+use crate::bounds::{search_by_bounds, try_by_bounds};
 use crate::guide::Guide;
 use crate::sharpened::Sharpened;
 use fux_pitch::Memory;
 use std::alloc::Global;
 use tree_search::Outcome;
+
+/// A try for the first leaf of least value of the guide's space, by bounds over its sharpened
+/// floors (`try_by_bounds`). It may be spent where a front with that budget isn't. A bound of all
+/// leaves may be known already.
+pub fn try_sharpened<G: Guide>(
+    alloc: Global,
+    guide: &G,
+    known: u64,
+    budget: u32,
+) -> Result<Outcome, Memory>
+    requires { BoundsLeaves (G.Tree.live (G.tree guide.now)) (G.Tree.height (G.tree guide.now))
+        known }
+    ensures found { IfOk result (λ outcome. IfFound outcome (IsFirstLeast (G.Tree.live (G.tree guide.now))
+        (G.Tree.height (G.tree guide.now)))) }
+    ensures nothing { IfOk result (λ outcome. OnNothing outcome (HasNoLeaf (G.Tree.live (G.tree guide.now))
+        (G.Tree.height (G.tree guide.now)))) }
+    ensures bound { IfOk result (λ outcome. IfSpent outcome (BoundsLeaves (G.Tree.live (G.tree guide.now))
+        (G.Tree.height (G.tree guide.now)))) }
+    ensures kept { IfOk result (λ outcome. IfSpent outcome (λ least. known ≤ least)) }
+    ensures agrees { IfOk result (AgreesWithAnswers (G.Tree.live (G.tree guide.now))
+        (G.Tree.height (G.tree guide.now))) }
+{
+    try_by_bounds(alloc, &Sharpened { guide }, known, budget)
+}
 
 /// The first leaf of least value of the guide's space, by bounds over its sharpened floors
 /// (`search_by_bounds`). Where the budget is enough the answer is that of any search of the space

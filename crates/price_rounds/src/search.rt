@@ -16,13 +16,18 @@ use crate::woven::{Woven, weave, weave_first};
 use fux_pitch::Memory;
 use open_ends::Keeps;
 use priced_floors::{Charges, PricedSpace, Prices};
-use priced_paths::{search_unpriced, search_web};
+use priced_paths::{search_unpriced, search_web, try_web};
 use species_space::SpeciesSpace;
 use std::alloc::Global;
 use tree_search::{Outcome, search_front};
 
 /// How many prefixes are opened at most before any price is sought: many an exercise needs no more.
-const FIRST_BUDGET: u32 = 32_768;
+/// With each voice more webs take longer, and so there are twice as many.
+const FIRST_OF_TWO: u32 = 32_768;
+
+const FIRST_OF_THREE: u32 = 65_536;
+
+const FIRST_OF_FOUR: u32 = 131_072;
 
 /// How many are at most by the floors that keep least. These are made soonest, and often are
 /// enough.
@@ -41,6 +46,15 @@ const EDGES: usize = 500_000;
 
 const EDGES_OF_A_PREFIX: usize = 6;
 
+/// How many prefixes are opened at most of a space before any price is sought.
+fn first_part(space: &SpeciesSpace<'_>) -> u32 {
+    match space.exercise().voices {
+        4 => FIRST_OF_FOUR,
+        3 => FIRST_OF_THREE,
+        _ => FIRST_OF_TWO,
+    }
+}
+
 /// How many edges a web may have, which cost a part of what a prefix does each: so the budget bounds
 /// the webs as well.
 pub(crate) fn room_for(budget: u32) -> usize {
@@ -57,6 +71,40 @@ pub(crate) fn plain_charges(alloc: Global, space: &SpeciesSpace<'_>) -> Result<C
     let voice = space.exercise().species_voice;
     let keys = summit_keys(alloc, space, voice)?;
     Charges::new(alloc, space.sheet(), &[], voice, &keys)
+}
+
+/// A try for the first leaf of least value, by floors over a web with these prices. It may be spent
+/// where a front with that budget isn't.
+fn try_woven(
+    alloc: Global,
+    space: &SpeciesSpace<'_>,
+    woven: &Woven,
+    voice: u8,
+    prices: &[Prices],
+    known: u64,
+    budget: u32,
+) -> Result<Outcome, Memory>
+    requires valid { IsValid space.now.exercise }
+    requires known { BoundsLeaves (live_at space.now.exercise space.now.sheet)
+        (columns_in space.now.exercise) known }
+    requires web { IsWoven space.now.exercise space.now.sheet woven.now.keeps woven.now.web }
+    ensures found { IfOk result
+        (λ outcome. IfFound outcome (IsFirstLeast (live_at space.now.exercise space.now.sheet)
+        (columns_in space.now.exercise))) }
+    ensures nothing { IfOk result
+        (λ outcome. OnNothing outcome (HasNoLeaf (live_at space.now.exercise space.now.sheet)
+        (columns_in space.now.exercise))) }
+    ensures bound { IfOk result
+        (λ outcome. IfSpent outcome (BoundsLeaves (live_at space.now.exercise space.now.sheet)
+        (columns_in space.now.exercise))) }
+    ensures kept { IfOk result (λ outcome. IfSpent outcome (λ least. known ≤ least)) }
+    ensures agrees { IfOk result (AgreesWithAnswers (live_at space.now.exercise space.now.sheet)
+        (columns_in space.now.exercise)) }
+{
+    let keys = summit_keys(alloc, space, voice)?;
+    let charges = Charges::new(alloc, space.sheet(), prices, voice, &keys)?;
+    let priced = PricedSpace::new(alloc, space, woven.keeps, &charges)?;
+    try_web(alloc, &priced, &woven.web, known, budget)
 }
 
 /// The first leaf of least value, by floors over a web with these prices.
@@ -120,7 +168,7 @@ fn search_least(
     least.seek(alloc, plain, bids, budget)?;
     let prices = bids.prices(alloc)?;
     let part = budget.min(LEAST_BUDGET);
-    let outcome = search_woven(alloc, space, &least, plain.voice, &prices, known, part)?;
+    let outcome = try_woven(alloc, space, &least, plain.voice, &prices, known, part)?;
     Ok(Some(outcome))
 }
 
@@ -157,7 +205,7 @@ fn search_raised(
         (columns_in space.now.exercise)) }
 {
     let part = budget.min(RAISED_BUDGET);
-    match search_woven(alloc, space, woven, voice, raised, known, part)? {
+    match try_woven(alloc, space, woven, voice, raised, known, part)? {
         Outcome::Spent { bound } => search_woven(alloc, space, woven, voice, prices, bound, budget),
         outcome => Ok(outcome),
     }
@@ -203,7 +251,7 @@ fn search_most(
     woven.seek_on(alloc, plain, bids, budget)?;
     let prices = bids.prices(alloc)?;
     let part = budget.min(MOST_BUDGET);
-    match search_woven(alloc, space, &woven, plain.voice, &prices, known, part)? {
+    match try_woven(alloc, space, &woven, plain.voice, &prices, known, part)? {
         Outcome::Spent { bound } => {
             woven.raise(alloc, plain, bids, budget)?;
             let raised = bids.prices(alloc)?;
@@ -319,7 +367,7 @@ pub fn search_best(alloc: Global, space: &SpeciesSpace<'_>, budget: u32) -> Resu
     ensures agrees { IfOk result (AgreesWithAnswers (live_at space.now.exercise space.now.sheet)
         (columns_in space.now.exercise)) }
 {
-    match search_front(alloc, space, budget.min(FIRST_BUDGET))? {
+    match search_front(alloc, space, budget.min(first_part(space)))? {
         Outcome::Spent { bound } => search_by_prices(alloc, space, bound, budget),
         outcome => Ok(outcome),
     }

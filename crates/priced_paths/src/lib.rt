@@ -12,5 +12,5 @@ mod web;
 
 pub use guide::{Place, PricedGuide, Standing, case_numbers, first_place};
 pub use pricing::{MOST_CASES, Pricing};
-pub use search::{search_priced, search_unpriced, search_web, web_of};
+pub use search::{search_priced, search_unpriced, search_web, try_web, web_of};
 pub use web::{Edge, MOST_COST, Spot, Web};

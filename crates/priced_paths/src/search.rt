@@ -10,7 +10,7 @@ use crate::build::weave;
 use crate::guide::{PricedGuide, case_numbers};
 use crate::pricing::Pricing;
 use crate::web::{Web, is_web};
-use floor_graphs::search_sharpened;
+use floor_graphs::{search_sharpened, try_sharpened};
 use fux_pitch::Memory;
 use std::alloc::Global;
 use tree_search::{Outcome, Space, search_front};
@@ -63,6 +63,39 @@ pub fn web_of<P: Pricing>(
         return Ok(None);
     }
     Ok(Some(web))
+}
+
+/// A try for the first leaf of least value, by the floors of a pricing, by its web. It may be spent
+/// where a front with that budget isn't; then each leaf has at least the bound for a value. A bound
+/// of all leaves that is known already is kept, and the try begins there at least.
+pub fn try_web<P: Pricing>(
+    alloc: Global,
+    pricing: &P,
+    web: &Web<P::Kept>,
+    known: u64,
+    budget: u32,
+) -> Result<Outcome, Memory>
+    requires web { IsWeb (P.kept_of pricing.now []) (P.Tree.height (P.tree pricing.now))
+        (P.breadth pricing.now) (P.step_at pricing.now) web.now }
+    requires known { BoundsLeaves (P.Tree.live (P.tree pricing.now))
+        (P.Tree.height (P.tree pricing.now)) known }
+    ensures found { IfOk result (λ outcome. IfFound outcome (IsFirstLeast (P.Tree.live (P.tree pricing.now))
+        (P.Tree.height (P.tree pricing.now)))) }
+    ensures nothing { IfOk result (λ outcome. OnNothing outcome (HasNoLeaf (P.Tree.live (P.tree pricing.now))
+        (P.Tree.height (P.tree pricing.now)))) }
+    ensures bound { IfOk result (λ outcome. IfSpent outcome (BoundsLeaves (P.Tree.live (P.tree pricing.now))
+        (P.Tree.height (P.tree pricing.now)))) }
+    ensures kept { IfOk result (λ outcome. IfSpent outcome (λ least. known ≤ least)) }
+    ensures agrees { IfOk result (AgreesWithAnswers (P.Tree.live (P.tree pricing.now))
+        (P.Tree.height (P.tree pricing.now))) }
+{
+    let numbers = case_numbers(alloc, pricing, web)?;
+    let guide = PricedGuide {
+        pricing,
+        web,
+        numbers: &numbers,
+    };
+    try_sharpened(alloc, &guide, known, budget)
 }
 
 /// The first leaf of least value, by the front over the floors of a pricing, by its web. Where the

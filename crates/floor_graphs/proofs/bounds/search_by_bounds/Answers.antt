@@ -7,10 +7,10 @@ returns-in_default g c =
     record {
       found = c.in_ok-answer.ensures.found;
       nothing = c.in_ok-answer.ensures.nothing;
-      bound = if_unspent _ _ unspent;
-      kept = if_unspent _ _ unspent;
+      bound = c.in_ok-answer.ensures.bound;
+      kept = c.in_ok-answer.ensures.kept;
       over = λ spent. absurd (unspent spent);
-      agrees = agrees_from_facts _ _ _ c.in_ok-answer.ensures.found c.in_ok-answer.ensures.nothing;
+      agrees = c.in_ok-answer.ensures.agrees;
     }
 
 pub returns-in_default-2 : goal.returns-in_default-2
@@ -23,16 +23,4 @@ returns-in_default-2 g c =
       kept = if_unspent _ _ unspent;
       over = λ spent. absurd (unspent spent);
       agrees = agrees_from_facts _ _ _ c.in_ok-answer-2.ensures.found c.in_ok-answer-2.ensures.nothing;
-    }
-
-pub returns-in_default-3 : goal.returns-in_default-3
-returns-in_default-3 g c =
-    let unspent = not_spent _ c.in_default-3.not-Spent in
-    record {
-      found = c.in_ok-answer-3.ensures.found;
-      nothing = c.in_ok-answer-3.ensures.nothing;
-      bound = if_unspent _ _ unspent;
-      kept = if_unspent _ _ unspent;
-      over = λ spent. absurd (unspent spent);
-      agrees = agrees_from_facts _ _ _ c.in_ok-answer-3.ensures.found c.in_ok-answer-3.ensures.nothing;
     }
