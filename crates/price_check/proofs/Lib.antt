@@ -1,1 +1,4 @@
 pub mod Places
+pub mod SharpLemmas
+pub mod Pushed
+pub mod Webs

@@ -1,1 +1,4 @@
 pub mod Floors
+pub mod Statements
+pub mod Sharps
+pub mod Woven

@@ -1,0 +1,116 @@
+-- What is kept has a number of its own (`same_keeps`), so lists that keep the same have the same web
+-- (`web_moved`), and where there is one for each number, each list has its own (`has_web`).
+use Rattle.std.proofs.Common.{◌≡◌, ⊎_elim, ℕ, ◌+◌, ◌<◌, Bool, true, false, List, [], ◌∷◌, ◌++◌, Option, Some, None, arith, get_or, length, slice_get, slice_index_or, refl, ap, ap₂, subst, sym, ◌∙◌}
+use Rattle.std.specs.Prelude.{if◌then◌else◌}
+use Rattle.std.proofs.lemmas.Bool.{cases_lt}
+use Rattle.std.proofs.lemmas.List.{get_or_append_left, get_or_default, get_or_past, get_or_push}
+use Rattle.std.proofs.lemmas.Option.{get_or_from_slice_get}
+use Rattle.floor_tables.specs.Tables.{Task}
+use Rattle.fux_grid.specs.Exercises.{columns_in}
+use Rattle.open_ends.specs.declared.keeps.Keeps.{Keeps}
+use Rattle.price_check.specs.declared.priced_list.PricedList.{PricedList}
+use Rattle.price_check.specs.Woven.{AreWebs, HasWeb, IsWebFor, IsWebOf, keeps_number, web_under}
+use Rattle.priced_floors.specs.declared.kept.Kept.{Kept}
+use Rattle.priced_floors.specs.Kept.{kept_of, step_of}
+use Rattle.priced_floors.specs.PricedLaws.{breadth_of}
+use Rattle.priced_paths.specs.declared.web.Web.{Web}
+use Rattle.priced_paths.specs.Webs.{IsWeb}
+
+bits_same : (a b c d : Bool) → (if a then 2 else 0) + (if b then 1 else 0) ≡ (if c then 2 else 0) + (if d then 1 else 0)
+    → (a ≡ c) × (b ≡ d)
+bits_same true true true true e = (refl, refl)
+bits_same true true true false e = absurd (omega (arith, e))
+bits_same true true false true e = absurd (omega (arith, e))
+bits_same true true false false e = absurd (omega (arith, e))
+bits_same true false true true e = absurd (omega (arith, e))
+bits_same true false true false e = (refl, refl)
+bits_same true false false true e = absurd (omega (arith, e))
+bits_same true false false false e = absurd (omega (arith, e))
+bits_same false true true true e = absurd (omega (arith, e))
+bits_same false true true false e = absurd (omega (arith, e))
+bits_same false true false true e = (refl, refl)
+bits_same false true false false e = absurd (omega (arith, e))
+bits_same false false true true e = absurd (omega (arith, e))
+bits_same false false true false e = absurd (omega (arith, e))
+bits_same false false false true e = absurd (omega (arith, e))
+bits_same false false false false e = (refl, refl)
+
+pub same_keeps : (a b : Keeps) → keeps_number a ≡ keeps_number b → a ≡ b
+same_keeps a b e =
+    let bits = bits_same a.turns a.runs b.turns b.runs e in
+    let of : Bool → Bool → Keeps = λ turns runs. record { turns = turns; runs = runs } in
+    ap₂ of bits.0 bits.1
+
+abbrev IsWebIn : Task → Keeps → Web Kept → Type 0
+IsWebIn task keeps web =
+    IsWeb (kept_of task.exercise keeps []) (columns_in task.exercise) (breadth_of task.exercise)
+    (step_of task.exercise task.sheet keeps) web
+
+-- a list's web is that of each list of the same settings that keeps the same
+pub web_moved : (one other : PricedList) (web : Web Kept) → one.space.space.now ≡ other.space.space.now
+    → keeps_number one.space.keeps ≡ keeps_number other.space.keeps → IsWebOf one.space web → IsWebOf other.space web
+web_moved one other web task number is =
+    subst (λ (k : Keeps). IsWebIn other.space.space.now k web) (same_keeps one.space.keeps other.space.keeps number)
+    (subst (λ (t : Task). IsWebIn t one.space.keeps web) task is)
+
+-- the list that is read at a place is the one there
+pub read_there : (lists : List PricedList) (k : ℕ) (own it : PricedList) → own ≡ get_or lists k own
+    → slice_get lists k ≡ Some it → own ≡ it
+read_there lists k own it is there = is ∙ get_or_from_slice_get lists k it own there
+
+keeps_few : (a b : Bool) → (if a then 2 else 0) + (if b then 1 else 0) < 4
+keeps_few true true = omega arith
+keeps_few true false = omega arith
+keeps_few false true = omega arith
+keeps_few false false = omega arith
+
+-- where the webs under all numbers are made, each list has its own
+pub has_web : (lists : List PricedList) (webs : List (Option (Web Kept)))
+    → ((n : ℕ) → n < 4 → IsWebFor lists n (slice_index_or webs n None)) → AreWebs lists webs
+has_web lists webs all j it there =
+    at (web_under webs it.space.keeps) refl (all n (keeps_few it.space.keeps.turns it.space.keeps.runs))
+  where
+    n : ℕ
+    n = keeps_number it.space.keeps
+
+    at : (o : Option (Web Kept)) → web_under webs it.space.keeps ≡ o → IsWebFor lists n o → HasWeb webs it
+    at None is for = absurd (for j it there refl)
+    at (Some web) is for = record { web = web; is = is; woven = for j it there refl }
+
+-- with a web more under the next number
+pub webs_more : (lists : List PricedList) (webs : List (Option (Web Kept))) (n : ℕ) (own : Option (Web Kept))
+    → length webs ≡ n → ((m : ℕ) → m < n → IsWebFor lists m (slice_index_or webs m None)) → IsWebFor lists n own
+    → (m : ℕ) → m < n + 1 → IsWebFor lists m (slice_index_or (webs ++ own ∷ []) m None)
+webs_more lists webs n own long before here m within = ⊎_elim
+    (λ earlier. subst (IsWebFor lists m) (sym (get_or_append_left webs (own ∷ []) None m (omega (arith, long, earlier))))
+    (before m earlier))
+    (λ after.
+    let same : m ≡ n = omega (arith, within, after) in
+    subst (λ (k : ℕ). IsWebFor lists k (slice_index_or (webs ++ own ∷ []) k None)) (sym same)
+    (subst (IsWebFor lists n) (sym (get_or_push webs own None n long)) here))
+    (cases_lt m n)
+
+-- the web under a list's number is its own
+pub some-same : {X : Type 0} (x y : X) → Some x ≡ Some y → x ≡ y
+some-same x y e = cc
+
+pub web_is : (webs : List (Option (Web Kept))) (it : PricedList) (web : Web Kept) → HasWeb webs it
+    → web_under webs it.space.keeps ≡ Some web → IsWebOf it.space web
+web_is webs it web has is =
+    subst (IsWebOf it.space) (some-same has.web web (sym has.is ∙ is)) has.woven
+
+pub within_some : (webs : List (Option (Web Kept))) (n : ℕ) (web : Web Kept) → slice_index_or webs n None ≡ Some web
+    → n < length webs
+within_some webs n web is = ⊎_elim (λ within. within)
+    (λ past. let none : None ≡ Some web = sym (get_or_past webs n None past) ∙ is in cc)
+    (cases_lt n (length webs))
+
+pub found_there : (webs : List (Option (Web Kept))) (n r : ℕ) (own : Option (Web Kept)) (web : Web Kept) → n ≡ r
+    → slice_index_or webs n None ≡ Some web → own ≡ get_or webs r own → own ≡ Some web
+found_there webs n r own web same is there =
+    let within : r < length webs = omega (arith, same, within_some webs n web is) in
+    there ∙ get_or_default webs r own None within ∙ ap (λ k. slice_index_or webs k None) (sym same) ∙ is
+
+pub same_web : (webs : List (Option (Web Kept))) (keeps : Keeps) (one other : Web Kept) → web_under webs keeps ≡ Some one
+    → web_under webs keeps ≡ Some other → one ≡ other
+same_web webs keeps one other is also = some-same one other (sym is ∙ also)

@@ -1,0 +1,26 @@
+-- Claims by the lists that lines state.
+use Rattle.std.specs.Prelude.{List}
+use Rattle.cert_text.specs.declared.answers.CertHead.{CertHead}
+use Rattle.cert_text.specs.declared.claim.Claim.{Claim}
+use Rattle.cert_tree.specs.Trees.{Tree}
+use Rattle.cert_law.specs.Certificates.{is_open}
+use Rattle.cert_law.specs.Claims.{longer_prefixes}
+use Rattle.fux_grid.specs.declared.cell.Cell.{Cell}
+use Rattle.fux_grid.specs.declared.exercise.Exercise.{Exercise}
+use Rattle.penalty_sheet.specs.declared.sheet.Sheet.{Sheet}
+use Rattle.price_law.specs.Certificates.{IsSharpTrueOf}
+use Rattle.price_law.specs.PriceLists.{PriceList}
+use Rattle.price_lists.specs.Stated.{AreStated}
+use Rattle.price_text.specs.PriceLines.{Line}
+
+-- a claim is true of a prefix by the lists that lines state
+pub record IsStatedTrueOf (ex : Exercise) (sheet : Sheet) (head : CertHead) (lines : List Line) (p : List (List Cell))
+    (claim : Claim) : Type 0 where
+  pub lists : List PriceList
+  pub stated : AreStated sheet lines lists
+  pub holds : IsSharpTrueOf ex sheet head lists p claim
+
+-- the prefixes, with the claims of them, by the lists that lines state
+abbrev pub stated_tree : Exercise → Sheet → CertHead → List Line → Tree (List (List Cell)) Claim
+stated_tree ex sheet head lines =
+    record { IsTrueOf = IsStatedTrueOf ex sheet head lines; is_open = is_open; longer = longer_prefixes ex }

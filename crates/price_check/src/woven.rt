@@ -1,0 +1,197 @@
+//! Lists with the settings that they price, the webs of what they keep, and the numbers worked there.
+
+ghost use Rattle.std.specs.Prelude.{◌≡◌, ◌≢◌, ◌<◌, ◌≤◌, ℕ, Some, None, length, map, slice_get, IfNone, IfOk, IfSome};
+ghost use Rattle.std.specs.List.{AllByRecursion};
+ghost use Rattle.price_check.specs.Floors.{AreFor, list_of as list_of_floor};
+ghost use Rattle.price_check.specs.Woven.{AreEachNumbers, AreNumbersIn, AreOf, AreOfOne, AreWebs, HasWeb, IsWebFor, list_priced};
+ghost use Rattle.price_check.specs.Woven as words;
+ghost use Rattle.price_check.specs.declared.priced_list.PricedList.{PricedList as APriced};
+ghost use Rattle.floor_tables.specs.Tables.{Task};
+ghost use Rattle.price_lists.specs.Owned.{IsFit, list_owned};
+
+use crate::floors::ListFloor;
+use crate::priced_list::PricedList;
+use fux_pitch::{List as Numbers, Memory};
+use open_ends::Keeps;
+use path_sums::PathSums;
+use price_lists::OwnList;
+use priced_floors::{Kept, PricedSpace};
+use priced_paths::{Web, case_numbers, web_of};
+use species_space::SpeciesSpace;
+use std::alloc::Global;
+
+/// Why there are no webs.
+#[derive(Clone, Copy, Debug, PartialEq, Eq)]
+pub enum WebFault {
+    /// What is kept is too much for a web.
+    TooLarge,
+    Memory,
+}
+
+/// A list with the settings of a space.
+fn priced_list<'a>(
+    alloc: Global,
+    space: &'a SpeciesSpace<'a>,
+    own: &'a OwnList,
+) -> Result<PricedList<'a>, Memory>
+    requires { IsFit space.now.sheet (list_owned own.now) }
+    ensures list { IfOk result (λ it. list_priced it ≡ list_owned own.entry.now) }
+    ensures space { IfOk result (λ it. it.space.space.now ≡ space.entry.now) }
+{
+    let priced = PricedSpace::new(alloc, space, own.keeps, &own.charges)?;
+    Ok(PricedList {
+        space: priced,
+        keeps: own.keeps,
+        plain: own.plain,
+    })
+}
+
+/// Lists with the settings of a space.
+pub fn priced_lists<'a>(
+    alloc: Global,
+    space: &'a SpeciesSpace<'a>,
+    own: &'a [OwnList],
+) -> Result<Vec<PricedList<'a>>, Memory>
+    requires { AllByRecursion (IsFit space.now.sheet) (map list_owned own.now) }
+    ensures lists { IfOk result (λ lists. map list_priced lists.items ≡ map list_owned own.entry.now) }
+    ensures space { IfOk result (λ lists. AreOf space.entry.now lists.items) }
+{
+    let mut lists = Vec::with_capacity(alloc, own.len())?;
+    for k in 0..own.len() {
+        let list = priced_list(alloc, space, &own[k])?;
+        lists.push_reserved(list);
+    }
+    Ok(lists)
+}
+
+/// The number of what is kept, among all that may be.
+fn keeps_number(keeps: Keeps) -> usize
+    ensures value { result ≡ words.keeps_number keeps }
+    ensures few { result < 4 }
+{
+    let turns = if keeps.turns { 2 } else { 0 };
+    let runs = if keeps.runs { 1 } else { 0 };
+    turns + runs
+}
+
+/// The first list that keeps what has this number.
+fn first_with(lists: &[PricedList<'_>], number: usize) -> Option<usize>
+    ensures some { IfSome result (λ k. k < length lists.now) }
+    ensures there { IfSome result (λ k. (it : APriced) → slice_get lists.now k ≡ Some it
+        → words.keeps_number it.space.keeps ≡ number) }
+    ensures none { result ≡ None → (k : ℕ) → (it : APriced) → slice_get lists.now k
+        ≡ Some it → words.keeps_number it.space.keeps ≢ number }
+{
+    for k in 0..lists.len() {
+        if keeps_number(lists[k].keeps) == number {
+            return Some(k);
+        }
+    }
+    None
+}
+
+/// The web of what the lists keep that has this number, where one of them does.
+fn web_with(
+    alloc: Global,
+    lists: &[PricedList<'_>],
+    number: usize,
+) -> Result<Option<Web<Kept>>, WebFault>
+    requires { AreOfOne lists.now }
+    ensures { IfOk result (IsWebFor lists.now number) }
+{
+    let Some(k) = first_with(lists, number) else {
+        return Ok(None);
+    };
+    match web_of(alloc, &lists[k].space, usize::MAX) {
+        Ok(Some(web)) => Ok(Some(web)),
+        Ok(None) => Err(WebFault::TooLarge),
+        Err(Memory) => Err(WebFault::Memory),
+    }
+}
+
+/// The webs of what lists keep, each under its number.
+pub fn webs_of(alloc: Global, lists: &[PricedList<'_>]) -> Result<Vec<Option<Web<Kept>>>, WebFault>
+    requires { AreOfOne lists.now }
+    ensures { IfOk result (λ webs. AreWebs lists.now webs.items) }
+{
+    let Ok(mut webs) = Vec::with_capacity(alloc, 4) else {
+        return Err(WebFault::Memory);
+    };
+    for number in 0..4 {
+        let web = web_with(alloc, lists, number)?;
+        webs.push_reserved(web);
+    }
+    Ok(webs)
+}
+
+/// The web of a list.
+fn web_in<'a>(webs: &'a [Option<Web<Kept>>], list: &PricedList<'_>) -> &'a Web<Kept>
+    requires { HasWeb webs.now list.now }
+    ensures { words.web_under webs.now list.now.space.keeps ≡ Some result.now }
+{
+    match &webs[keeps_number(list.keeps)] {
+        Some(web) => web,
+        None => unreachable!(),
+    }
+}
+
+/// The numbers of each list.
+pub fn list_numbers(
+    alloc: Global,
+    lists: &[PricedList<'_>],
+    webs: &[Option<Web<Kept>>],
+) -> Result<Vec<Vec<Numbers<Option<u64>>>>, Memory>
+    requires { AreWebs lists.now webs.now }
+    ensures { IfOk result (λ numbers. AreEachNumbers lists.now webs.now numbers.items) }
+{
+    let mut numbers = Vec::with_capacity(alloc, lists.len())?;
+    for j in 0..lists.len() {
+        let list = &lists[j];
+        let web = web_in(webs, list);
+        let own = case_numbers(alloc, &list.space, web)?;
+        numbers.push_reserved(own);
+    }
+    Ok(numbers)
+}
+
+/// A list with its web and its numbers.
+fn floor_of<'a>(
+    list: &'a PricedList<'a>,
+    webs: &'a [Option<Web<Kept>>],
+    numbers: &'a [Numbers<Option<u64>>],
+) -> ListFloor<'a>
+    requires web { HasWeb webs.now list.now }
+    requires numbers { AreNumbersIn webs.now list.now numbers.now }
+    ensures list { list_of_floor result ≡ list_priced list.entry.now }
+    ensures space { result.sums.guide.pricing.now.space.now ≡ list.entry.now.space.space.now }
+{
+    let web = web_in(webs, list);
+    let sums = PathSums::new(&list.space, web, numbers);
+    ListFloor {
+        sums,
+        plain: list.plain,
+    }
+}
+
+/// Each list with its web and its numbers.
+pub fn list_floors<'a>(
+    alloc: Global,
+    lists: &'a [PricedList<'a>],
+    webs: &'a [Option<Web<Kept>>],
+    numbers: &'a [Vec<Numbers<Option<u64>>>],
+) -> Result<Vec<ListFloor<'a>>, Memory>
+    requires webs { AreWebs lists.now webs.now }
+    requires numbers { AreEachNumbers lists.now webs.now numbers.now }
+    ensures lists { IfOk result (λ floors. map list_of_floor floors.items
+        ≡ map list_priced lists.entry.now) }
+    ensures space { IfOk result (λ floors. (task : Task) → AreOf task lists.entry.now
+        → AreFor task.exercise task.sheet floors.items) }
+{
+    let mut floors = Vec::with_capacity(alloc, lists.len())?;
+    for j in 0..lists.len() {
+        let list = &lists[j];
+        let own = numbers[j].as_slice();
+        floors.push_reserved(floor_of(list, webs, own));
+    }
+    Ok(floors)
+}
