@@ -136,6 +136,22 @@ module _ {N : Type 0} {is_at : N → List ℕ → Type 0} {height : ℕ} {links 
         leads = sym known.1;
       }
 
+  -- to the same entry where there is a link more
+  pub trail_stays : (link : Link) (links' : List Link) → links' ≡ links ++ link ∷ []
+      → IsTrailTo is_at height links' path nodes entries level entry
+  trail_stays link links' a = rw a (record {
+    trail = trail.trail;
+    entries_long = trail.entries_long;
+    root = trail.root;
+    earlier = λ j d le.
+        let known = trail.earlier j d le in (
+          omega (arith, known.0, length_push links link),
+          path_in-earlier links link (get_or entries j d) known.0 ∙ known.1,
+        );
+    entry_within = omega (arith, trail.entry_within, length_push links link);
+    leads = trail.leads ∙ sym (path_in-earlier links link entry trail.entry_within);
+  })
+
   -- on to the entry of a child
   pub trail_on : (k number : ℕ) (path' : List ℕ) (nodes' : List N) (entries' : List ℕ) (level' : ℕ) → level < height
       → IsTrail is_at height path' nodes' level' → path' ≡ set path level k

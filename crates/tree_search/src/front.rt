@@ -89,8 +89,10 @@ fn add(front: &mut Front, floor: u64, link: Link, budget: u32)
     front.waiting.put(floor, entry);
 }
 
-/// Meets one child of the open entry, to which the trail leads as far as the level, and goes on to
-/// the child if it is live. It answers whether the budget was enough.
+/// Meets one child of the open entry, to which the trail leads as far as the level. It goes on to
+/// the child if that is live and no higher than the least one met so far: so in the end the trail
+/// leads to the child that is opened before the others. No answer depends on it. It answers whether
+/// the budget was enough.
 fn take_child<S: Space>(
     space: &S,
     front: &mut Front,
@@ -98,6 +100,7 @@ fn take_child<S: Space>(
     level: usize,
     entry: u32,
     k: usize,
+    least: &mut u64,
     budget: u32,
 ) -> bool
     requires open { IsOpen (S.live space.now) (S.height space.now) front.old entry k }
@@ -133,13 +136,17 @@ fn take_child<S: Space>(
         child: k as u16,
     };
     add(front, floor, link, budget);
+    if floor > *least {
+        return true;
+    }
+    *least = floor;
     place(trail, level, k as u16, front.links.len() as u32);
     true
 }
 
 /// Opens the entry to which the trail leads: meets each of its live children. The trail then leads
-/// to the last of them, which is the next entry of its floor. It answers whether the budget was
-/// enough.
+/// to the last of the least of them, which is opened before the others. It answers whether the
+/// budget was enough.
 fn open<S: Space>(space: &S, front: &mut Front, trail: &mut Trail<S::Node>, budget: u32) -> bool
     requires open { IsOpen (S.live space.now) (S.height space.now) front.old trail.old.entry 0 }
     requires trail { Leads (S.is_at space.now) (S.height space.now) front.old.links.items
@@ -161,12 +168,13 @@ fn open<S: Space>(space: &S, front: &mut Front, trail: &mut Trail<S::Node>, budg
     let entry = trail.entry;
     let count = space.count(&trail.nodes[level]);
     let mut from = 0;
+    let mut least = u64::MAX;
     while from < count {
         let k = space.next_child(&trail.nodes[level], from, None);
         if k >= count {
             return true;
         }
-        if !take_child(space, front, trail, level, entry, k, budget) {
+        if !take_child(space, front, trail, level, entry, k, &mut least, budget) {
             return false;
         }
         from = k + 1;

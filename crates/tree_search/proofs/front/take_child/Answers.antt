@@ -5,7 +5,7 @@ use Rattle.tree_search.specs.Finds.{kept}
 use Rattle.tree_search.specs.declared.finds.Finds.{Finds}
 use Rattle.tree_search.specs.declared.links.Link.{Link}
 use Rattle.tree_search.proofs.Loads.{many_loaded}
-use Rattle.tree_search.proofs.Trails.{node_of, trail_parent, trail_child}
+use Rattle.tree_search.proofs.Trails.{node_of, trail_parent, trail_child, trail_stays}
 use Rattle.tree_search.proofs.Searches.{IsOpen-add, path_stays}
 use Rattle.tree_search.proofs.front.take_child.Goals as goal
 
@@ -15,6 +15,31 @@ returns-then-len-budget-clause-spent g c =
     c.args.budget c.requires.open.1 refl
     (c.in-Some.ensures _ (node_of c.requires.parent c.index.result.now c.index.ensures)).1
     (omega (arith, c.len.ensures, c.if-len-budget.true, c.args.front.now.links.ok.0))
+
+pub returns-then-floor-least-clause-open : goal.returns-then-floor-least-clause-open
+returns-then-floor-least-clause-open g c =
+    let more = c.add.ensures in
+    IsOpen-add (g.met.S.Space.floors_grow c.args.space.now) c.requires.open.0 c.requires.open.1
+    more.waiting _ _ _ more.links (ap (λ (finds : Finds). finds.most) more.finds)
+    (ap (λ (finds : Finds). kept finds) more.finds)
+    (c.in-Some.ensures _ (node_of c.requires.parent c.index.result.now c.index.ensures)).1
+
+pub returns-then-floor-least-clause-path : goal.returns-then-floor-least-clause-path
+returns-then-floor-least-clause-path g c =
+    path_stays (g.met.S.Space.floors_grow c.args.space.now) c.requires.open.0 c.requires.open.1
+    c.add.ensures.waiting _ c.add.ensures.links
+
+pub returns-then-floor-least-clause-taken : goal.returns-then-floor-least-clause-taken
+returns-then-floor-least-clause-taken g c =
+    let links = ap (λ (xs : List Link). length xs) c.add.ensures.links
+    ∙ length_push c.args.front.now.links.items _ in
+    omega (arith, links, length_permutation _ _ c.add.ensures.waiting)
+
+pub returns-then-floor-least-clause-parent : goal.returns-then-floor-least-clause-parent
+returns-then-floor-least-clause-parent g c = trail_stays c.requires.parent _ _ c.add.ensures.links
+
+pub returns-then-floor-least-clause-trail : goal.returns-then-floor-least-clause-trail
+returns-then-floor-least-clause-trail g c = trail_stays c.requires.trail _ _ c.add.ensures.links
 
 pub returns-clause-open : goal.returns-clause-open
 returns-clause-open g c =
