@@ -7,7 +7,7 @@ pub mod Ends
 pub mod Facts
 pub mod Grows
 pub mod KeptLemmas
-mod LateLemmas
+pub mod LateLemmas
 pub mod LeastLaws
 pub mod LineLemmas
 pub mod LinkLemmas

@@ -60,3 +60,7 @@ pub record AnswersFor (ex : Exercise) (next : State) (test : ℕ → Bool) : Typ
   pub column : List Cell
   pub come : HasCome ex next prefix column
   pub same : (rule : ℕ) → test rule ≡ breaks_late ex prefix column rule
+
+-- no rule of the set has a place that column i may settle
+abbrev pub HaveNoPlace : Exercise → ℕ → ℕ → Type 0
+HaveNoPlace ex i set = (rule : ℕ) → has_rule set rule ≡ true → (rule_at rule).count ex i ≡ 0

@@ -6,7 +6,7 @@ ghost use Rattle.fux_grid.specs.Exercises.{IsValid, columns_in};
 ghost use Rattle.rule_law.specs.Rulebooks.{newly_breaks};
 ghost use Rattle.fux_judge.specs.Penalties.{newly_broken_at, new_price};
 ghost use Rattle.fux_judge.specs.Rules.{is_late, late_rules, rule_at};
-ghost use Rattle.fux_judge.specs.Late.{AddsLateBreaks, AnswersFor, MayBeAsked, SettlesAmong, TellsAtPlace, TellsOfNewest, end_of_places};
+ghost use Rattle.fux_judge.specs.Late.{AddsLateBreaks, AnswersFor, HaveNoPlace, MayBeAsked, SettlesAmong, TellsAtPlace, TellsOfNewest, end_of_places};
 ghost use Rattle.fux_judge.specs.Steps as steps;
 
 use crate::all_rules::{AllRules, form_of};
@@ -190,15 +190,32 @@ fn prices_of_late(rule: u8, ex: &Exercise, next: &State) -> u64
     sum
 }
 
-/// The question whether the newest column settles a strict break of a late rule.
+/// The late rules that have no place which column `i` may settle, whatever the column is.
+pub fn idle_rules(ex: &Exercise, i: usize) -> RuleSet
+    requires valid { IsValid ex.now }
+    requires place { i < columns_in ex.now }
+    ensures { HaveNoPlace ex.now i result.bits }
+{
+    let mut idle = RuleSet::EMPTY;
+    for rule in every_late_rule() {
+        let places = places_at(*rule, ex, i);
+        idle = idle.with(*rule, places.count == 0);
+    }
+    idle
+}
+
+/// The question whether the newest column settles a strict break of a late rule. Of rules that are
+/// known to have no place there nothing is read.
 #[derive(Clone, Copy)]
 struct BreaksLate<'a> {
     exercise: &'a Exercise<'a>,
+    idle: RuleSet,
     next: &'a State,
 }
 
 impl LateQuestion for BreaksLate<'_> {
-    ghost is_ready = { λ it. MayBeAsked it.exercise.now it.next.now };
+    ghost is_ready = { λ it. MayBeAsked it.exercise.now it.next.now
+        × HaveNoPlace it.exercise.now (it.next.now.newest.len - 1) it.idle.bits };
 
     ghost may_ask = { λ _. is_late };
 
@@ -206,20 +223,29 @@ impl LateQuestion for BreaksLate<'_> {
 
     #[inline(always)]
     fn ask(&self, rule: u8) -> bool {
+        if self.idle.has(rule) {
+            return false;
+        }
         is_broken_late(rule, self.exercise, self.next)
     }
 }
 
-/// Whether the newest column settles a strict break of some late rule.
+/// Whether the newest column settles a strict break of some late rule. Of rules that are known to
+/// have no place there nothing is read.
 #[inline(always)]
-pub(crate) fn settles_late_break(ex: &Exercise, next: &State) -> bool
+pub(crate) fn settles_late_break(ex: &Exercise, idle: RuleSet, next: &State) -> bool
     requires valid { IsValid ex.now }
     requires begun { 0 < next.now.newest.len }
     requires room { next.now.newest.len ≤ columns_in ex.now }
+    requires idle { HaveNoPlace ex.now (next.now.newest.len - 1) idle.bits }
     ensures { TellsOfNewest ex.now next.now (λ p col. list_any (steps.breaks_late ex.now p col)
         late_rules) result }
 {
-    AllRules::asks_some(&BreaksLate { exercise: ex, next })
+    AllRules::asks_some(&BreaksLate {
+        exercise: ex,
+        idle,
+        next,
+    })
 }
 
 /// A set with the late rules added of which the newest column settles a strict break.

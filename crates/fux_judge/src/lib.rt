@@ -27,6 +27,7 @@ mod verdict;
 mod whole;
 
 pub use always::is_always_dead;
+pub use late::idle_rules;
 pub use lines::least;
 pub use link::{column_cost, link_cost, pair_cost};
 pub use moves::{move_cost, moves_are_least, pair_cost_from};

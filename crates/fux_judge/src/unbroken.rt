@@ -5,6 +5,7 @@ ghost use Rattle.std.specs.List.{list_any};
 ghost use Rattle.fux_grid.specs.Exercises.{IsValid, columns_in};
 ghost use Rattle.rule_law.specs.Voices.{has_rule};
 ghost use Rattle.fux_judge.specs.Gauges.{least_of};
+ghost use Rattle.fux_judge.specs.Late.{HaveNoPlace};
 ghost use Rattle.fux_judge.specs.Rules.{rules_at_once};
 ghost use Rattle.fux_judge.specs.Penalties.{newly_paid, settles_break};
 ghost use Rattle.fux_judge.specs.States.{IsStateOf};
@@ -38,10 +39,12 @@ pub struct Price {
 }
 
 /// What a column that settles no strict break costs; none where it settles one, and then no more is
-/// read than tells so. The state of the longer prefix is written into the place that is given.
+/// read than tells so: nothing of late rules that are known to have no place there. The state of the
+/// longer prefix is written into the place that is given.
 pub fn step_unbroken(
     ex: &Exercise,
     sheet: &Sheet,
+    idle: RuleSet,
     state: &State,
     col: &Column,
     next: &mut State,
@@ -49,6 +52,7 @@ pub fn step_unbroken(
     requires valid { IsValid ex.now }
     requires room { state.now.newest.len < columns_in ex.now }
     requires full { length col.now.items ≡ ex.now.voices }
+    requires idle { HaveNoPlace ex.now state.now.newest.len idle.bits }
     ensures state { IfSome result (λ _. Grown ex.now state.now col.now.items
         (λ longer. IsStateOf ex.now longer next.new)) }
 
@@ -69,7 +73,7 @@ pub fn step_unbroken(
 {
     *next = *state;
     next.add(ex, col);
-    if settles_late_break(ex, next) {
+    if settles_late_break(ex, idle, next) {
         return None;
     }
     let moment = moment_of(ex, state, col);

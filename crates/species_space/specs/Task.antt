@@ -3,17 +3,19 @@ use Rattle.std.specs.Prelude.{◌≡◌, ℕ, ◌<◌, List, length, slice_index
 use Rattle.fux_grid.specs.declared.exercise.Exercise.{Exercise}
 use Rattle.fux_grid.specs.Exercises.{IsValid, columns_in}
 use Rattle.fux_grid.specs.Menus.{menu_of}
+use Rattle.fux_judge.specs.Late.{HaveNoPlace}
 use Rattle.floor_tables.specs.Tables.{AreNarrow}
 pub use Rattle.floor_tables.specs.Tables.{Task}
 use Rattle.species_space.specs.Blocks.{AreBlocksOf, IsCut, SkipDead, columns_seen}
 use Rattle.species_space.specs.declared.blocks.BlockMenu.{BlockMenu}
 use Rattle.species_space.specs.declared.blocks.MenuView.{MenuView}
 
--- what is known of the menu of a place: its blocks, and of its columns how many are dead after
--- every prefix from them on
+-- what is known of the menu of a place: its blocks, of its columns how many are dead after every
+-- prefix from them on, and late rules of which its column settles nothing
 pub record IsBlockMenuOf (ex : Exercise) (i : ℕ) (menu : BlockMenu) : Type 0 where
   pub blocks : AreBlocksOf (menu_of ex i) menu.blocks
   pub skip : SkipDead ex i (menu_of ex i) menu.undead.items
+  pub idle : HaveNoPlace ex i menu.idle.bits
 
 -- the same of each of the first places
 abbrev pub AreMenus : Exercise → List BlockMenu → Type 0

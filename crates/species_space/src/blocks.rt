@@ -9,7 +9,7 @@ ghost use Rattle.fux_grid.specs.Menus.{IsAscending};
 ghost use Rattle.species_space.specs.Blocks.{Agree, AreBlocksOf, HasOneWidth, IsNumberAt, IsBlockEnd, IsCut, IsHeldNext, IsNext, IsOnlyHolds, IsWithoutHolds, KeepsCell, columns_seen, same_cell};
 
 use fux_grid::{Cell, Column, cell_of, cells_follow};
-use rule_law::begins_bar;
+use rule_law::{RuleSet, begins_bar};
 
 /// How a menu is cut into blocks of equal length, for each voice into blocks of its own, over each
 /// of which the voice keeps its cell.
@@ -30,6 +30,8 @@ pub(crate) struct BlockMenu {
     /// For each column the number of the first one, from it on, that isn't dead after every prefix.
     /// A column that has none here is its own.
     pub(crate) undead: Vec<u16>,
+    /// The late rules that have no place which the column of its place may settle.
+    pub(crate) idle: RuleSet,
 }
 
 /// The columns of a menu, as the tables keep them, with what is known of them.

@@ -20,6 +20,7 @@ use fux_grid::{Column, Exercise, mixed_as};
 use fux_judge::{State, least};
 use fux_pitch::Memory;
 use penalty_sheet::Sheet;
+use rule_law::RuleSet;
 use std::alloc::Global;
 use std::marker::Model;
 use tree_search::{QuestSpace, Space};
@@ -158,7 +159,16 @@ impl<'a> Space for MixedSpace<'a> {
 
     fn child_into(&self, node: &Node, k: usize, child: &mut Node) -> Option<u64> {
         let column = self.column(node.state.len(), k);
-        child_by(&self.exercise, self.sheet, node, k, column, 0, child)
+        child_by(
+            &self.exercise,
+            self.sheet,
+            RuleSet::EMPTY,
+            node,
+            k,
+            column,
+            0,
+            child,
+        )
     }
 
     fn next_child(&self, node: &Node, from: usize, best: Option<u64>) -> usize {

@@ -6,6 +6,7 @@ ghost use Rattle.fux_grid.specs.Grid.{items_of};
 ghost use Rattle.fux_grid.specs.Menus.{menu_of};
 ghost use Rattle.species_space.specs.Blocks.{AreBlocksOf, SkipDead};
 ghost use Rattle.floor_tables.specs.Tables.{AreNarrow, IsRest, TellsWidth};
+ghost use Rattle.fux_judge.specs.Late.{HaveNoPlace};
 ghost use Rattle.species_space.specs.Grows.{paths_grow};
 ghost use Rattle.species_space.specs.Nodes.{IsNodeOf};
 ghost use Rattle.species_space.specs.Chained.{IsRestWith};
@@ -19,9 +20,10 @@ use crate::node::Node;
 use crate::walk::next_unpruned;
 use floor_tables::{TableFault, Tables, fill_tables};
 use fux_grid::{Column, Exercise, cells_follow};
-use fux_judge::{Price, State, is_always_dead, least, step_again, step_unbroken};
+use fux_judge::{Price, State, idle_rules, is_always_dead, least, step_again, step_unbroken};
 use fux_pitch::Memory;
 use penalty_sheet::Sheet;
+use rule_law::RuleSet;
 use std::alloc::Global;
 use std::marker::Model;
 use std::thread::Threads;
@@ -116,6 +118,15 @@ impl<'a> SpeciesSpace<'a> {
         }
     }
 
+    /// The late rules that have no place which column i may settle.
+    #[inline]
+    fn idle(&self, i: usize) -> RuleSet
+        requires { i < columns_in self.now.exercise }
+        ensures { HaveNoPlace self.now.exercise i result.bits }
+    {
+        self.menus[i].idle
+    }
+
     /// The column of a child with the least sum of the chains that go on from it; none where none
     /// does.
     #[inline]
@@ -178,7 +189,17 @@ impl<'a> Space for SpeciesSpace<'a> {
 
     fn child_into(&self, node: &Node, k: usize, child: &mut Node) -> Option<u64> {
         let (column, rest) = self.choice(node, k)?;
-        child_by(self.exercise, self.sheet, node, k, column, rest, child)
+        let idle = self.idle(node.state.len());
+        child_by(
+            self.exercise,
+            self.sheet,
+            idle,
+            node,
+            k,
+            column,
+            rest,
+            child,
+        )
     }
 
     fn remake(&self, node: &Node, k: usize, child: &mut Node) -> u64 {
@@ -264,17 +285,23 @@ fn menus_of(
     for i in 0..columns {
         let blocks = blocks_at(tables, &menus, i);
         let undead = undead_numbers(alloc, exercise, i, tables.columns(i))?;
-        menus.push_reserved(BlockMenu { blocks, undead });
+        let idle = idle_rules(exercise, i);
+        menus.push_reserved(BlockMenu {
+            blocks,
+            undead,
+            idle,
+        });
     }
     Ok(menus)
 }
 
 /// The floor of the child of this number and column, where the column follows and settles no strict
-/// break: what is to come behind it costs `rest` at least. The child is written into the place that
-/// is given.
+/// break: what is to come behind it costs `rest` at least. Late rules that are known to have no
+/// place there aren't asked. The child is written into the place that is given.
 pub(crate) fn child_by(
     exercise: &Exercise,
     sheet: &Sheet,
+    idle: RuleSet,
     node: &Node,
     k: usize,
     column: &Column,
@@ -284,6 +311,7 @@ pub(crate) fn child_by(
     requires valid { IsValid exercise.now }
     requires child { HasChild (IsNodeOf exercise.now sheet.now node.now) (columns_in exercise.now)
         (width_at exercise.now) k }
+    requires idle { HaveNoPlace exercise.now node.now.state.newest.len idle.bits }
     requires column { column.now.items
         ≡ slice_index_or (menu_of exercise.now node.now.state.newest.len) k [] }
     requires small { rest ≤ 2 ^ 61 }
@@ -296,7 +324,8 @@ pub(crate) fn child_by(
     if !cells_follow(before, column.as_slice()) {
         return None;
     }
-    let Some(price) = step_unbroken(exercise, sheet, &node.state, column, &mut child.state) else {
+    let next = &mut child.state;
+    let Some(price) = step_unbroken(exercise, sheet, idle, &node.state, column, next) else {
         return None;
     };
     child.paid = node.paid + price.paid;

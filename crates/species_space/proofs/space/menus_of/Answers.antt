@@ -15,12 +15,17 @@ loop-i-preserved c =
     let old = c.loop-i.invariant in
     let menus = c.loop-i.menus.items in
     let columns = c.columns.result.now in
-    let menu : BlockMenu = record { blocks = c.blocks_at-blocks.result; undead = c.in_ok-undead.undead } in
+    let menu : BlockMenu = record {
+      blocks = c.blocks_at-blocks.result;
+      undead = c.in_ok-undead.undead;
+      idle = c.idle_rules-idle.result;
+    } in
     let is = c.columns.ensures ∙ ap (λ (e : Exercise). menu_of e i) c.requires.tables in
     let next : IsBlockMenuOf ex i menu = record {
       blocks = subst (λ (e : Exercise). AreBlocksOf (menu_of e i) menu.blocks) c.requires.tables
           c.blocks_at-blocks.ensures;
       skip = subst (λ cols. SkipDead ex i cols menu.undead.items) is c.in_ok-undead.ensures;
+      idle = c.idle_rules-idle.ensures;
     } in
     record {
       room = c.push_reserved.ensures.capacity ∙ old.room;

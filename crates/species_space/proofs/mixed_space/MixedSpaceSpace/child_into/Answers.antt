@@ -1,6 +1,7 @@
 use Rattle.std.proofs.Common.{◌≡◌, ◌<◌, false, refl, length, sym, ◌∙◌, subst, arith}
 use Rattle.fux_grid.specs.Menus.{menu_of}
 use Rattle.floor_tables.specs.Tables.{Task}
+use Rattle.fux_judge.proofs.LateLemmas.{none_idle}
 use Rattle.tree_search.specs.Space.{IsMadeChild}
 use Rattle.species_space.specs.Nodes.{IsNodeOf}
 use Rattle.species_space.specs.Paths.{live_with, prefix_at, length-columns_on}
@@ -22,6 +23,9 @@ column-column-requires-clause-within c =
     let here : c.len.result ≡ length c.requires.path = c.len.ensures ex (prefix_at ex c.requires.path)
     c.requires.at.state ∙ length-columns_on ex 0 c.requires.path in
     subst (λ n. c.args.k < length (menu_of ex n)) (sym here) c.requires.within
+
+pub child_by-requires-clause-idle : goal.child_by-requires-clause-idle
+child_by-requires-clause-idle c = none_idle _ c.args.node.now.state.newest.len
 
 pub returns : goal.returns
 returns c =

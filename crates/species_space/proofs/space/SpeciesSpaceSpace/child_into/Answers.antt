@@ -1,9 +1,10 @@
-use Rattle.std.proofs.Common.{◌<◌, Some, true, sym, subst, arith}
+use Rattle.std.proofs.Common.{◌≡◌, ◌<◌, ℕ, Some, true, sym, ◌∙◌, subst, arith}
 use Rattle.fux_grid.specs.Exercises.{columns_in}
 use Rattle.floor_tables.specs.Tables.{IsRest, Task}
+use Rattle.fux_judge.specs.Late.{HaveNoPlace}
 use Rattle.tree_search.specs.Space.{IsMadeChild}
 use Rattle.species_space.specs.Nodes.{IsNodeOf}
-use Rattle.species_space.specs.Paths.{live_at}
+use Rattle.species_space.specs.Paths.{length-columns_on, live_at, prefix_at}
 use Rattle.species_space.proofs.Children.{as_long, no_chain}
 use Rattle.species_space.proofs.space.SpeciesSpaceSpace.child_into.Goals as goal
 
@@ -15,6 +16,24 @@ returns-in_err-column c = λ path at.
     let room : node.state.newest.len < columns_in ex =
     omega (arith, as_long ex sheet node c.requires.path c.requires.at, c.requires.above) in
     rw c.from_residual.ensures (no_chain ex sheet node path c.args.k at room c.in_err-column.ensures.none)
+
+pub idle-idle-requires : goal.idle-idle-requires
+idle-idle-requires c =
+    let ex = c.args.self.now.exercise in
+    omega (
+      arith,
+      c.len.ensures ex (prefix_at ex c.requires.path) c.requires.at.state,
+      length-columns_on ex 0 c.requires.path,
+      c.requires.above,
+    )
+
+pub child_by-requires-clause-idle : goal.child_by-requires-clause-idle
+child_by-requires-clause-idle c =
+    let ex = c.args.self.now.exercise in
+    let same : c.len.result ≡ c.args.node.now.state.newest.len = c.len.ensures ex (prefix_at ex c.requires.path)
+    c.requires.at.state ∙ sym c.requires.at.state.newest.count in
+    subst (λ (t : Task). HaveNoPlace t.exercise c.args.node.now.state.newest.len c.idle-idle.result.bits)
+    (sym c.self.view_is) (subst (λ (n : ℕ). HaveNoPlace ex n c.idle-idle.result.bits) same c.idle-idle.ensures)
 
 pub returns : goal.returns
 returns c =
