@@ -19,6 +19,7 @@ place_kept ex i menus others more place is kept =
       there = omega (arith, kept.there, ap length is, length-append menus others);
       menu = λ d. subst (λ (m : Menu). IsMenuOf (menu_of ex i) m) (sym (same d)) (kept.menu d);
       skip = kept.skip;
+      idle = kept.idle;
     }
 
 -- the menu of a place behind the others

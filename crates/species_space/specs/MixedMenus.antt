@@ -5,6 +5,7 @@ use Rattle.fux_grid.specs.declared.exercise.Exercise.{Exercise}
 use Rattle.fux_grid.specs.Exercises.{IsValid, columns_in}
 use Rattle.fux_grid.specs.Grid.{items_of}
 use Rattle.fux_grid.specs.Menus.{menu_of}
+use Rattle.fux_judge.specs.Late.{HaveNoPlace}
 use Rattle.floor_tables.specs.Tables.{AreNarrow}
 use Rattle.species_space.specs.Blocks.{AreBlocksOf, SkipDead}
 use Rattle.species_space.specs.declared.menus.Menu.{Menu}
@@ -16,11 +17,13 @@ pub record IsMenuOf (columns : List (List Cell)) (menu : Menu) : Type 0 where
   pub columns_are : items_of menu.columns.items ≡ columns
   pub blocks_are : AreBlocksOf columns menu.blocks
 
--- the number at a place is that of the place's menu, and what is known of its columns is so
+-- the number at a place is that of the place's menu, and what is known of its columns is so, and of
+-- late rules of which its column settles nothing
 pub record IsPlaceMenu (ex : Exercise) (menus : List Menu) (i : ℕ) (place : PlaceMenu) : Type 0 where
   pub there : place.menu < length menus
   pub menu : (d : Menu) → IsMenuOf (menu_of ex i) (slice_index_or menus place.menu d)
   pub skip : SkipDead ex i (menu_of ex i) place.undead.items
+  pub idle : HaveNoPlace ex i place.idle.bits
 
 -- the same of each of the first places
 abbrev pub ArePlaces : Exercise → List Menu → List PlaceMenu → Type 0

@@ -10,7 +10,9 @@ ghost use Rattle.species_space.specs.MixedMenus.{AreMenusOf, IsLatest, IsMenuOf,
 use crate::blocks::Blocks;
 use crate::space::undead_numbers;
 use fux_grid::{Column, Exercise, Place, WIDEST, menu, place_of, voice_cells, width};
+use fux_judge::idle_rules;
 use fux_pitch::Memory;
+use rule_law::RuleSet;
 use std::alloc::Global;
 
 /// The columns of a menu, and the blocks over which its voices keep their cells.
@@ -26,6 +28,8 @@ pub(crate) struct Menu {
 pub(crate) struct PlaceMenu {
     pub(crate) menu: usize,
     pub(crate) undead: Vec<u16>,
+    /// The late rules that have no place which the column of the place may settle.
+    pub(crate) idle: RuleSet,
 }
 
 /// The menus of all places.
@@ -118,7 +122,8 @@ pub(crate) fn menus_of(alloc: Global, ex: &Exercise) -> Result<Menus, Memory>
     for i in 0..8 * ex.bars as usize {
         let menu = number_at(alloc, ex, &mut menus, i)?;
         let undead = undead_numbers(alloc, ex, i, &menus[menu].columns)?;
-        places.push(PlaceMenu { menu, undead })?;
+        let idle = idle_rules(ex, i);
+        places.push(PlaceMenu { menu, undead, idle })?;
     }
     Ok(Menus { menus, places })
 }

@@ -5,6 +5,7 @@ ghost use Rattle.fux_grid.specs.Exercises.{IsValid, columns_in};
 ghost use Rattle.fux_grid.specs.Grid.{items_of};
 ghost use Rattle.fux_grid.specs.Menus.{menu_of};
 ghost use Rattle.floor_tables.specs.Tables.{AreNarrow, TellsWidth};
+ghost use Rattle.fux_judge.specs.Late.{HaveNoPlace};
 ghost use Rattle.species_space.specs.Mixed.{IsMixed, exercise_of};
 ghost use Rattle.species_space.specs.Task.{IsViewOf};
 
@@ -87,6 +88,15 @@ impl<'a> MixedSpace<'a> {
         &self.menus.menus[self.menus.places[i].menu].columns
     }
 
+    /// The late rules that have no place which column i may settle.
+    #[inline]
+    fn idle(&self, i: usize) -> RuleSet
+        requires { i < columns_in self.now.exercise }
+        ensures { HaveNoPlace self.now.exercise i result.bits }
+    {
+        self.menus.places[i].idle
+    }
+
     /// The menu of place i.
     fn menu(&self, i: usize) -> MenuView<'_>
         requires { i < columns_in self.now.exercise }
@@ -162,7 +172,7 @@ impl<'a> Space for MixedSpace<'a> {
         child_by(
             &self.exercise,
             self.sheet,
-            RuleSet::EMPTY,
+            self.idle(node.state.len()),
             node,
             k,
             column,

@@ -18,13 +18,18 @@ loop-i-preserved c =
     let more = c.number_at.new.menus.items in
     let places = c.loop-i.places.items in
     let number = c.in_ok-menu.ensures in
-    let place : PlaceMenu = record { menu = c.in_ok-menu.menu; undead = c.in_ok-undead.undead } in
+    let place : PlaceMenu = record {
+      menu = c.in_ok-menu.menu;
+      undead = c.in_ok-undead.undead;
+      idle = c.idle_rules-idle.result;
+    } in
     let this = subst (IsMenuOf (menu_of ex i)) (sym c.index.ensures) (number.menu c.index.result.now) in
     let columns : items_of c.deref.result.now ≡ menu_of ex i = ap items_of c.deref.ensures.value ∙ this.columns_are in
     let next : IsPlaceMenu ex more i place = record {
       there = omega (arith, number.last);
       menu = number.menu;
       skip = subst (λ cols. SkipDead ex i cols place.undead.items) columns c.in_ok-undead.ensures;
+      idle = c.idle_rules-idle.ensures;
     } in
     let same : i ≡ i + 1 - 1 = omega arith in
     let last : place.menu ≡ length more - 1 = omega (arith, number.last) in

@@ -1,7 +1,7 @@
-use Rattle.std.proofs.Common.{◌≡◌, ◌<◌, false, refl, length, sym, ◌∙◌, subst, arith}
+use Rattle.std.proofs.Common.{◌≡◌, ◌<◌, ℕ, false, refl, length, sym, ◌∙◌, subst, arith}
 use Rattle.fux_grid.specs.Menus.{menu_of}
 use Rattle.floor_tables.specs.Tables.{Task}
-use Rattle.fux_judge.proofs.LateLemmas.{none_idle}
+use Rattle.fux_judge.specs.Late.{HaveNoPlace}
 use Rattle.tree_search.specs.Space.{IsMadeChild}
 use Rattle.species_space.specs.Nodes.{IsNodeOf}
 use Rattle.species_space.specs.Paths.{live_with, prefix_at, length-columns_on}
@@ -24,8 +24,23 @@ column-column-requires-clause-within c =
     c.requires.at.state ∙ length-columns_on ex 0 c.requires.path in
     subst (λ n. c.args.k < length (menu_of ex n)) (sym here) c.requires.within
 
+pub idle-requires : goal.idle-requires
+idle-requires c =
+    let ex = c.args.self.now.exercise in
+    omega (
+      arith,
+      c.len-2.ensures ex (prefix_at ex c.requires.path) c.requires.at.state,
+      length-columns_on ex 0 c.requires.path,
+      c.requires.above,
+    )
+
 pub child_by-requires-clause-idle : goal.child_by-requires-clause-idle
-child_by-requires-clause-idle c = none_idle _ c.args.node.now.state.newest.len
+child_by-requires-clause-idle c =
+    let ex = c.args.self.now.exercise in
+    let same : c.len-2.result ≡ c.args.node.now.state.newest.len = c.len-2.ensures ex (prefix_at ex c.requires.path)
+    c.requires.at.state ∙ sym c.requires.at.state.newest.count in
+    subst (λ (t : Task). HaveNoPlace t.exercise c.args.node.now.state.newest.len c.idle.result.bits)
+    (sym c.self.view_is) (subst (λ (n : ℕ). HaveNoPlace ex n c.idle.result.bits) same c.idle.ensures)
 
 pub returns : goal.returns
 returns c =
