@@ -144,6 +144,14 @@ impl<'a> MenuView<'a> {
         4
     }
 
+    /// Whether each cell of each column is a hold: then at most one column may follow.
+    #[inline]
+    pub(crate) fn is_of_holds(&self) -> bool
+        ensures { result ≡ self.now.blocks.now.only_holds }
+    {
+        self.blocks.only_holds
+    }
+
     /// Whether this column, in a menu of holds, may follow at column `i`, where no bar begins.
     #[inline]
     pub(crate) fn goes_on(&self, i: usize, before: &[Cell], k: usize) -> bool

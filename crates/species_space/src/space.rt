@@ -209,6 +209,10 @@ impl<'a> Space for SpeciesSpace<'a> {
         child_again(self.exercise, self.sheet, node, k, column, rest, child)
     }
 
+    fn is_last(&self, node: &Node, _k: usize) -> bool {
+        self.menu(node.state.len()).is_of_holds()
+    }
+
     fn next_child(&self, node: &Node, from: usize, best: Option<u64>) -> usize {
         let menu = self.menu(node.state.len());
         next_unpruned(

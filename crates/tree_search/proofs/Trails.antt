@@ -13,6 +13,10 @@ pub some_of : (o : Option ℕ) → IsSome o → (x : ℕ) × (o ≡ Some x)
 some_of None e = cc
 some_of (Some x) e = (x, refl)
 
+pub is_there : (o : Option ℕ) (x : ℕ) → o ≡ Some x → IsSome o
+is_there None x e = cc
+is_there (Some y) x e = refl
+
 -- a node with a live child has that child, and is of no leaf
 pub has_child : {is_at : List ℕ → Type 0} {live : List ℕ → Option ℕ} {width : List ℕ → ℕ} {height k : ℕ} →
     FloorsGrow live width height → HasLiveChild is_at live k → HasChild is_at height width k

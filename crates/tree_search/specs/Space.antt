@@ -62,6 +62,16 @@ pub record IsParent (live : List ℕ → Option ℕ) (width : List ℕ → ℕ) 
   pub within : child < width path
   pub above : length path < height
 
+-- wherever the child of this number is live, those behind it are dead, as far as the next one
+abbrev pub AreDeadBetween : (List ℕ → Type 0) → (List ℕ → Option ℕ) → ℕ → ℕ → Type 0
+AreDeadBetween is_at live child next =
+    (path : List ℕ) → is_at path → IsSome (live (path ++ child ∷ []))
+    → (later floor : ℕ) → child < later → later < next → live (path ++ later ∷ []) ≡ Some floor → ⊥
+
+-- so are all of them
+abbrev pub IsLast : (List ℕ → Type 0) → (List ℕ → Option ℕ) → ℕ → Type 0
+IsLast is_at live child = (next : ℕ) → AreDeadBetween is_at live child next
+
 -- from parent to live child, floors do not fall
 abbrev pub FloorsGrow : (List ℕ → Option ℕ) → (List ℕ → ℕ) → ℕ → Type 0
 FloorsGrow live width height =

@@ -1,5 +1,5 @@
 //! Best first: the node of least floor is opened next.
-ghost use Rattle.std.specs.Prelude.{◌≡◌, ℕ, ◌<◌, ◌≤◌, ◌+◌, ◌^◌, ◌++◌, ◌∷◌, ◌↔◌, [], length, IfOk, IsPermutation, vec_capacity};
+ghost use Rattle.std.specs.Prelude.{◌≡◌, ℕ, ◌<◌, ◌≤◌, ◌+◌, ◌^◌, ◌++◌, ◌∷◌, ◌↔◌, [], length, IfSome, IfNone, IfOk, IsPermutation, vec_capacity};
 ghost use Rattle.std.specs.BinaryHeap.{heap_capacity};
 ghost use Rattle.std.specs.Bool.{OnTrue, OnFalse};
 ghost use Rattle.tree_search.specs.Answer.{AreLowerLoadsWithin, AtMost, IsLiveBelowRoot, IsLoaded, Many};
@@ -10,6 +10,7 @@ ghost use Rattle.tree_search.specs.Trails.{LeadsTo, Leads};
 ghost use Rattle.tree_search.specs.Nth.{AreFewerBelow, HasOnly, IsNthLeaf, IsOverNth};
 ghost use Rattle.tree_search.specs.Numbered.{IfFound, IfOnly, IfSpent, IsSpent};
 ghost use Rattle.tree_search.specs.Finds.{IsFinds, kept};
+ghost use Rattle.tree_search.specs.Space.{AreDeadBetween, HasChild};
 ghost use Rattle.tree_search.specs.Fronts.{IsLoadAbove, IsClosedAt, next_number, IsOpen, HasRoom, SameTaken};
 
 use crate::finds::Finds;
@@ -89,59 +90,93 @@ fn add(front: &mut Front, floor: u64, link: Link, budget: u32)
     front.waiting.put(floor, entry);
 }
 
-/// Meets one child of the open entry, to which the trail leads as far as the level. It goes on to
-/// the child if that is live and no higher than the least one met so far: so in the end the trail
-/// leads to the child that is opened before the others. No answer depends on it. It answers whether
-/// the budget was enough.
+/// The entry that is open: how far the trail leads to it, its number, and how many children it has.
+#[derive(Clone, Copy)]
+struct Opened {
+    level: usize,
+    entry: u32,
+    count: usize,
+}
+
+/// The number of the child that is to be met behind a live one; the count where there is none.
+#[inline]
+fn next_after<S: Space>(space: &S, node: &S::Node, k: usize, count: usize) -> usize
+    requires child { HasChild (S.is_at space.now node.now) (S.height space.now) (S.width space.now)
+        k }
+    requires within { k < count }
+    ensures onward { k < result }
+    ensures within { result ≤ count }
+    ensures passed { AreDeadBetween (S.is_at space.now node.now) (S.live space.now) k result }
+{
+    if space.is_last(node, k) {
+        return count;
+    }
+    k + 1
+}
+
+/// Meets one child of the open entry. The trail goes on to the child if that is live and no higher
+/// than the least one met so far: so in the end it leads to the child that is opened before the
+/// others. No answer depends on it. It tells the number of the child that is to be met next, the
+/// count where there is none; nothing where the budget isn't enough.
 fn take_child<S: Space>(
     space: &S,
     front: &mut Front,
     trail: &mut Trail<S::Node>,
-    level: usize,
-    entry: u32,
+    opened: Opened,
     k: usize,
     least: &mut u64,
     budget: u32,
-) -> bool
-    requires open { IsOpen (S.live space.now) (S.height space.now) front.old entry k }
+) -> Option<usize>
+    requires open { IsOpen (S.live space.now) (S.height space.now) front.old opened.entry k }
     requires parent { LeadsTo (S.is_at space.now) (S.height space.now) front.old.links.items
-        trail.old level entry }
+        trail.old opened.level opened.entry }
     requires trail { Leads (S.is_at space.now) (S.height space.now) front.old.links.items
         trail.old }
-    requires above { level < S.height space.now }
-    requires within { k < S.width space.now (path_in front.old.links.items entry) }
-    requires small { k < 2 ^ 16 }
+    requires above { opened.level < S.height space.now }
+    requires within { k < opened.count }
+    requires count { opened.count
+        ≡ S.width space.now (path_in front.old.links.items opened.entry) }
+    requires few { opened.count ≤ 2 ^ 16 }
     requires room { HasRoom budget front.old }
     requires queue { IsQueue front.old.waiting }
-    ensures open { OnTrue result (IsOpen (S.live space.now) (S.height space.now) front.new entry
-        (k + 1)) }
-    ensures path { path_in front.new.links.items entry ≡ path_in front.old.links.items entry }
+    ensures open { IfSome result (λ next. IsOpen (S.live space.now) (S.height space.now) front.new
+        opened.entry next) }
+    ensures onward { IfSome result (λ next. k < next) }
+    ensures within { IfSome result (λ next. next ≤ opened.count) }
+    ensures path { path_in front.new.links.items opened.entry
+        ≡ path_in front.old.links.items opened.entry }
     ensures parent { LeadsTo (S.is_at space.now) (S.height space.now) front.new.links.items
-        trail.new level entry }
+        trail.new opened.level opened.entry }
     ensures trail { Leads (S.is_at space.now) (S.height space.now) front.new.links.items trail.new }
     ensures room { HasRoom budget front.new }
     ensures queue { IsQueue front.new.waiting }
     ensures taken { SameTaken front.old front.new }
     ensures finds { front.new.finds ≡ front.old.finds }
-    ensures spent { OnFalse result (IsLoadAbove (S.live space.now) front.old entry budget) }
+    ensures spent { IfNone result (IsLoadAbove (S.live space.now) front.old opened.entry budget) }
 {
+    let Opened {
+        level,
+        entry,
+        count,
+    } = opened;
     let Some(floor) = space.child_into(&trail.nodes[level], k, &mut trail.spare) else {
-        return true;
+        return Some(k + 1);
     };
     if front.links.len() == budget as usize {
-        return false;
+        return None;
     }
+    let next = next_after(space, &trail.nodes[level], k, count);
     let link = Link {
         parent: entry,
         child: k as u16,
     };
     add(front, floor, link, budget);
     if floor > *least {
-        return true;
+        return Some(next);
     }
     *least = floor;
     place(trail, level, k as u16, front.links.len() as u32);
-    true
+    Some(next)
 }
 
 /// Opens the entry to which the trail leads: meets each of its live children. The trail then leads
@@ -167,6 +202,11 @@ fn open<S: Space>(space: &S, front: &mut Front, trail: &mut Trail<S::Node>, budg
     let level = trail.level;
     let entry = trail.entry;
     let count = space.count(&trail.nodes[level]);
+    let opened = Opened {
+        level,
+        entry,
+        count,
+    };
     let mut from = 0;
     let mut least = u64::MAX;
     while from < count {
@@ -174,10 +214,11 @@ fn open<S: Space>(space: &S, front: &mut Front, trail: &mut Trail<S::Node>, budg
         if k >= count {
             return true;
         }
-        if !take_child(space, front, trail, level, entry, k, &mut least, budget) {
+        let next = take_child(space, front, trail, opened, k, &mut least, budget);
+        let Some(next) = next else {
             return false;
-        }
-        from = k + 1;
+        };
+        from = next;
     }
     true
 }

@@ -1,6 +1,6 @@
 //! Trees that are made as they are searched.
-ghost use Rattle.std.specs.Prelude.{◌≡◌, ℕ, ◌≤◌, [], List, Option};
-ghost use Rattle.tree_search.specs.Space.{IsInner, HasChild, HasLiveChild, IsFoundAt, IsFoundChild, IsMadeChild, IsMadeAgain, AreNoBetter, FloorsGrow};
+ghost use Rattle.std.specs.Prelude.{◌≡◌, ℕ, ◌≤◌, [], List, Option, IsTrue};
+ghost use Rattle.tree_search.specs.Space.{IsInner, HasChild, HasLiveChild, IsFoundAt, IsFoundChild, IsMadeChild, IsLast, IsMadeAgain, AreNoBetter, FloorsGrow};
 
 /// A tree of bounded depth, whose live nodes have floors. A node is named by its path, the child
 /// numbers from the root to it. A node at `depth` is a leaf, and its floor is its value.
@@ -79,6 +79,19 @@ pub trait Space {
     {
         let _ = best;
         from
+    }
+
+    /// Whether no child behind this one is live where it is live itself. A search then asks for no
+    /// other one. A space that can tell at once says so here; where it says no, there may be none
+    /// all the same.
+    #[inline]
+    fn is_last(&self, node: &Self::Node, k: usize) -> bool
+        requires { HasChild (is_at self.now node.now) (height self.now) (width self.now) k }
+        ensures { IsTrue result → IsLast (is_at self.now node.now) (live self.now) k }
+    {
+        let _ = node;
+        let _ = k;
+        false
     }
 
     /// A live node's parent is live, has that child, is no leaf, and its floor is no higher.
