@@ -1,10 +1,10 @@
 -- Which paths are opened, and how many.
-use Rattle.std.proofs.Common.{◌≡◌, ◌≢◌, ℕ, ◌+◌, ◌<◌, ◌≤◌, ◌⊎◌, inl, inr, ⊎_elim, List, [], ◌∷◌, ◌++◌, length, Option, Some, None, IsSomeAnd, is_some, refl, sym, ap, subst, ◌∙◌, arith, append_assoc, append-nil, length-append}
+use Rattle.std.proofs.Common.{◌≡◌, ◌≢◌, ℕ, ◌+◌, ◌-◌, ◌<◌, ◌≤◌, ◌⊎◌, inl, inr, ⊎_elim, List, [], ◌∷◌, ◌++◌, length, Option, Some, None, IsSomeAnd, is_some, refl, sym, ap, subst, ◌∙◌, arith, append_assoc, append-nil, length-append}
 use Rattle.std.proofs.lemmas.List.{append_cancel_left}
 use Rattle.std.proofs.lemmas.Bool.{cases_lt}
 use Rattle.tree_search.specs.Answer.{IsLeaf, IsBefore, Many, IsLiveBelowRoot, IsOpened}
 use Rattle.tree_search.specs.Space.{AreNoBetter, FloorsGrow}
-use Rattle.tree_search.specs.Walks.{BeginsWith, IsOpenedFrom, IsOpenedBelow, IsBestBefore, Exactly}
+use Rattle.tree_search.specs.Walks.{BeginsWith, IsOpenedFrom, IsOpenedBelow, IsBestBefore, Exactly, HasOpened}
 use Rattle.tree_search.proofs.Order.{IsBefore-below, IsBefore-on}
 use Rattle.tree_search.proofs.Floors.{child_within, nothing_past, start_live, floor_from, none_from, better}
 use Rattle.tree_search.proofs.Counts.{Many-one, Many-by, Many-add, Exactly-none, Exactly-one, Exactly-by, Exactly-add}
@@ -93,6 +93,12 @@ pub many_live : (live : List ℕ → Option ℕ) (height w n : ℕ) → Many (Is
     → Many (IsLiveBelowRoot live) n
 many_live live height w n = Many-by (IsOpenedBelow live height [] w) (IsLiveBelowRoot live)
     (λ x it. (ap is_some it.0.is_live, it.0.below_root)) n n refl
+
+-- where none is opened, all is left
+pub all_left : (Kind : List ℕ → Type 0) (budget : ℕ) → Exactly Kind 0 → HasOpened Kind budget budget
+all_left Kind budget none =
+    let zero : 0 ≡ budget - budget = omega arith in
+    (omega arith, subst (λ (n : ℕ). Exactly Kind n) zero none)
 
 pub many_opened : (live : List ℕ → Option ℕ) (height w n : ℕ) → Many (IsOpenedBelow live height [] w) n
     → Many (IsOpened live height) n

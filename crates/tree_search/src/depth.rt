@@ -3,7 +3,7 @@ ghost use Rattle.std.specs.Prelude.{◌≡◌, ℕ, ◌<◌, ◌≤◌, ◌+◌,
 ghost use Rattle.std.specs.Bool.{OnTrue, OnFalse};
 ghost use Rattle.tree_search.specs.Answer.{IsFirstLeast, HasNoLeaf, BoundsLeaves, Many, AtMost, IsLiveBelowRoot, IsOpened};
 ghost use Rattle.tree_search.specs.Outcomes.{IfFound, OnNothing, IfSpent, IsSpent};
-ghost use Rattle.tree_search.specs.Walks.{path_to, HasBestBefore, HasBestAfter, OpensUnder, OpensFrom, LacksUnder, LacksFrom, HasLengths};
+ghost use Rattle.tree_search.specs.Walks.{path_to, HasOpened, HasBestBefore, HasBestAfter, OpensUnder, OpensFrom, LacksUnder, LacksFrom, HasLengths};
 
 use crate::outcome::Outcome;
 use crate::space::Space;
@@ -107,10 +107,93 @@ fn enter<S: Space>(space: &S, node: &S::Node, level: usize, k: usize, walk: &mut
     true
 }
 
-/// The first leaf of least value, if a budget is enough for the nodes that have to be opened. A
-/// live node below the root is opened, and takes one unit of the budget, unless a leaf before it in
-/// the order of paths has no higher value than its floor. All memory is taken before the walk
-/// begins.
+/// What a search in depth answers, and how much it leaves of its budget.
+#[derive(Drop)]
+pub struct Spending {
+    pub outcome: Outcome,
+    pub left: u32,
+}
+
+/// The first leaf of least value, if a budget is enough for the nodes that have to be opened, and
+/// what is left of the budget. A live node below the root is opened, and takes one unit of the
+/// budget, unless a leaf before it in the order of paths has no higher value than its floor. Of a
+/// budget that isn't enough nothing is left. All memory is taken before the walk begins.
+pub fn spend_depth<S: Space>(alloc: Global, space: &S, budget: u32) -> Result<Spending, Memory>
+    ensures found { IfOk result (λ it. IfFound it.outcome (IsFirstLeast (S.live space.now)
+        (S.height space.now))) }
+    ensures nothing { IfOk result
+        (λ it. OnNothing it.outcome (HasNoLeaf (S.live space.now) (S.height space.now))) }
+    ensures spent { IfOk result
+        (λ it. IfSpent it.outcome (λ _. Many (IsLiveBelowRoot (S.live space.now)) (budget + 1))) }
+    ensures bound { IfOk result (λ it. IfSpent it.outcome (BoundsLeaves (S.live space.now)
+        (S.height space.now))) }
+    ensures floor { IfOk result (λ it. IfSpent it.outcome (λ bound. (floor : ℕ) → S.live space.now []
+        ≡ Some floor → floor ≤ bound)) }
+    ensures enough { AtMost (IsLiveBelowRoot (S.live space.now)) budget
+        → IfOk result (λ it. ¬ IsSpent it.outcome) }
+
+    // The budget is spent exactly where more nodes than that are to be opened.
+    ensures opened { IfOk result (λ it. IsSpent it.outcome
+        ↔ Many (IsOpened (S.live space.now) (S.height space.now)) (budget + 1)) }
+
+    // Else each node that is to be opened takes a unit, and all else is left.
+    ensures charged { IfOk result (λ it. ¬ IsSpent it.outcome
+        → HasOpened (IsOpened (S.live space.now) (S.height space.now)) budget it.left) }
+    ensures left { IfOk result (λ it. it.left ≤ budget) }
+{
+    let depth = space.depth();
+    let path = vec![in alloc; 0u16; depth]?;
+    let best_path = vec![in alloc; 0u16; depth]?;
+    let Some((root, floor)) = space.root() else {
+        return Ok(Spending {
+            outcome: Outcome::Nothing,
+            left: budget,
+        });
+    };
+    if depth == 0 {
+        return Ok(Spending {
+            outcome: Outcome::Found {
+                path: List::new(best_path),
+                value: floor,
+            },
+            left: budget,
+        });
+    }
+    let mut walk = Walk {
+        path,
+        best_path,
+        best: None,
+        left: budget,
+    };
+    if !descend(space, &root, 0, &mut walk) {
+        return Ok(Spending {
+            outcome: Outcome::Spent { bound: floor },
+            left: 0,
+        });
+    }
+    let Walk {
+        path: _,
+        best_path,
+        best,
+        left,
+    } = walk;
+    match best {
+        None => Ok(Spending {
+            outcome: Outcome::Nothing,
+            left,
+        }),
+        Some(value) => Ok(Spending {
+            outcome: Outcome::Found {
+                path: List::new(best_path),
+                value,
+            },
+            left,
+        }),
+    }
+}
+
+/// The first leaf of least value, if a budget is enough for the nodes that have to be opened, as
+/// `spend_depth` has it.
 pub fn search_depth<S: Space>(alloc: Global, space: &S, budget: u32) -> Result<Outcome, Memory>
     ensures found { IfOk result (λ outcome. IfFound outcome (IsFirstLeast (S.live space.now)
         (S.height space.now))) }
@@ -129,38 +212,6 @@ pub fn search_depth<S: Space>(alloc: Global, space: &S, budget: u32) -> Result<O
     ensures opened { IfOk result (λ outcome. IsSpent outcome
         ↔ Many (IsOpened (S.live space.now) (S.height space.now)) (budget + 1)) }
 {
-    let depth = space.depth();
-    let path = vec![in alloc; 0u16; depth]?;
-    let best_path = vec![in alloc; 0u16; depth]?;
-    let Some((root, floor)) = space.root() else {
-        return Ok(Outcome::Nothing);
-    };
-    if depth == 0 {
-        return Ok(Outcome::Found {
-            path: List::new(best_path),
-            value: floor,
-        });
-    }
-    let mut walk = Walk {
-        path,
-        best_path,
-        best: None,
-        left: budget,
-    };
-    if !descend(space, &root, 0, &mut walk) {
-        return Ok(Outcome::Spent { bound: floor });
-    }
-    let Walk {
-        path: _,
-        best_path,
-        best,
-        left: _,
-    } = walk;
-    match best {
-        None => Ok(Outcome::Nothing),
-        Some(value) => Ok(Outcome::Found {
-            path: List::new(best_path),
-            value,
-        }),
-    }
+    let Spending { outcome, left: _ } = spend_depth(alloc, space, budget)?;
+    Ok(outcome)
 }
