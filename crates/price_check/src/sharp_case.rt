@@ -29,14 +29,14 @@ pub struct SharpKnown {
 
 /// A case, and the lists that lines state, by which its claims are judged.
 #[derive(Drop)]
-pub struct SharpCase<'a> {
+pub struct SharpCase<'a, 'f> {
     case: Case<'a>,
     plain: TailedCase<'a, Tables<'a>>,
     lines: &'a [PriceLine],
-    floors: &'a [ListFloor<'a>],
+    floors: &'a [ListFloor<'f>],
 }
 
-impl<'a> Model for SharpCase<'a> {
+impl<'a, 'f> Model for SharpCase<'a, 'f> {
     ghost use Rattle.std.specs.Prelude.{map};
     ghost use Rattle.cert_law.specs.Cases.{matter_of};
     ghost use Rattle.price_check.specs.Sharps.{IsSharp, Sharp, webbed};
@@ -54,14 +54,14 @@ impl<'a> Model for SharpCase<'a> {
         s.floors.now };
 }
 
-impl<'a> SharpCase<'a> {
+impl<'a, 'f> SharpCase<'a, 'f> {
     /// A case with the lists that lines state, for its exercise and its sheet.
     pub fn new(
         case: Case<'a>,
         tables: &'a Tables<'a>,
         lines: &'a [PriceLine],
-        floors: &'a [ListFloor<'a>],
-    ) -> SharpCase<'a>
+        floors: &'a [ListFloor<'f>],
+    ) -> SharpCase<'a, 'f>
         requires case { IsCase (matter_of case) }
         requires tables { HasTails (matter_of case) (basis_of tables.now) }
         requires few { length floors.now ≤ MOST_LISTS }
@@ -99,7 +99,7 @@ impl<'a> SharpCase<'a> {
     }
 }
 
-impl<'a> ClaimTree for SharpCase<'a> {
+impl<'a, 'f> ClaimTree for SharpCase<'a, 'f> {
     ghost use Rattle.std.specs.Prelude.{[], List as Items};
     ghost use Rattle.cert_law.specs.Certificates.{Begins};
     ghost use Rattle.cert_law.specs.Known.{ways_of};
