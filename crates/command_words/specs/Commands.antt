@@ -377,12 +377,17 @@ explain_asked rows = do
 abbrev pub mixed_by : Text → Option Text → Text → MixedJob → Option Task
 mixed_by name sheet list job = named_in list >>= λ named. Some (on_mixed name sheet named job)
 
+-- the best setting of a mixed exercise, by sharper floors where these are asked for
+abbrev pub mixing : ℕ → Bool → MixedJob
+mixing budget true = mixed.Best budget
+mixing budget false = mixed.Compose budget
+
 abbrev pub mixed_asked : List Row → Option Task
 mixed_asked rows = do
   name ← first_of (codes "EX") rows
   list ← first_of (codes "with") rows
   budget ← budget_in (first_of (codes "budget") rows)
-  mixed_by name (first_of (codes "sheet") rows) list (mixed.Compose budget)
+  mixed_by name (first_of (codes "sheet") rows) list (mixing budget (is_set (codes "best") rows))
 
 abbrev pub mark_mixed_asked : List Row → Option Task
 mark_mixed_asked rows = do

@@ -54,6 +54,8 @@ pub enum Job {
 pub enum MixedJob {
     /// Its best setting, found within this budget.
     Compose { budget: u32 },
+    /// Its best setting, found by sharper floors.
+    Best { budget: u32 },
     /// The marks of its setting.
     Mark,
     /// What its setting breaks and pays for.

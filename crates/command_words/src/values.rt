@@ -5,7 +5,7 @@ ghost use Rattle.clap.specs.Words.{first_of, found_of, rows_of};
 ghost use Rattle.fux_text.specs.Names.{mode_named};
 ghost use Rattle.smf_score.specs.Heads.{IsHead};
 ghost use Rattle.text_lines.specs.Numbers.{number_within};
-ghost use Rattle.command_words.specs.Commands.{AreNamed, HasHead, HasMidiHead, IsNamedSubject, IsWanted, against_in, are_a_class, asks, before_in, before_nth, best_asked, budget_in, canon_asked, cantus_asked, cantus_of, certify_asked, certify_cantus_asked, check_asked, check_cantus_asked, class_asked, classing_of, compose_asked, composing, drill_asked, either_asked, either_by, explain_asked, files_asked, files_in, filing_of, form_in, from_smf_asked, goes_on, head_in, is_item, is_set, job_asked, join_smf_asked, kind_in, making_task, manner_in, mark_asked, mark_mixed_asked, marking_of, mixed_asked, mixed_by, named_in, new_cantus_asked, number_at, page_of, paged_in, picture_asked, print_asked, said_of, search_in, subject_in, task_of, texts, wanted_in, weigh_asked, weighing_with, wrap_in};
+ghost use Rattle.command_words.specs.Commands.{AreNamed, HasHead, HasMidiHead, IsNamedSubject, IsWanted, against_in, are_a_class, asks, before_in, before_nth, best_asked, budget_in, canon_asked, cantus_asked, cantus_of, certify_asked, certify_cantus_asked, check_asked, check_cantus_asked, class_asked, classing_of, compose_asked, composing, drill_asked, either_asked, either_by, explain_asked, files_asked, files_in, filing_of, form_in, from_smf_asked, goes_on, head_in, is_item, is_set, job_asked, join_smf_asked, kind_in, making_task, manner_in, mark_asked, mark_mixed_asked, marking_of, mixed_asked, mixed_by, mixing, named_in, new_cantus_asked, number_at, page_of, paged_in, picture_asked, print_asked, said_of, search_in, subject_in, task_of, texts, wanted_in, weigh_asked, weighing_with, wrap_in};
 
 use crate::command::{Command, FileKind, Job, Making, MixedJob, Named, Search, Subject, Wanted};
 use crate::verbs::Verb;
@@ -598,6 +598,17 @@ fn mixed_by<'a>(
     }))
 }
 
+/// The best setting of a mixed exercise, by sharper floors where these are asked for.
+fn mixing(budget: u32, by_sharper: bool) -> MixedJob
+    ensures { result ≡ mixing budget by_sharper }
+{
+    if by_sharper {
+        MixedJob::Best { budget }
+    } else {
+        MixedJob::Compose { budget }
+    }
+}
+
 /// `mixed`, on the exercise of a file.
 fn mixed_asked<'a>(matches: &ArgMatches<'a>) -> Option<Command<'a>>
     ensures asked { option_map task_of result ≡ mixed_asked (rows_of (found_of matches.now)) }
@@ -607,7 +618,8 @@ fn mixed_asked<'a>(matches: &ArgMatches<'a>) -> Option<Command<'a>>
     let list = value(matches, "with")?;
     let budget = budget_of(value(matches, "budget"))?;
     let sheet = value(matches, "sheet");
-    mixed_by(name, sheet, list, MixedJob::Compose { budget })
+    let by_sharper = is_set(matches, "best");
+    mixed_by(name, sheet, list, mixing(budget, by_sharper))
 }
 
 /// `markmixed`, on the exercise of a file.

@@ -218,7 +218,13 @@ impl Verb {
             Verb::Canon => ("canon", &[Part::File, Part::Sheet, Part::Budget, Part::Nth]),
             Verb::Mixed => (
                 "mixed",
-                &[Part::Exercise, Part::Sheet, Part::Budget, Part::With],
+                &[
+                    Part::Exercise,
+                    Part::Sheet,
+                    Part::Budget,
+                    Part::With,
+                    Part::BySharper,
+                ],
             ),
             Verb::MarkMixed => ("markmixed", &[Part::Exercise, Part::With]),
             Verb::Weigh => (

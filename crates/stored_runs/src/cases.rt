@@ -22,8 +22,8 @@
 //!   file of it, and a copy again.
 //! - `lines A B`: of what is written only the lines from the one number to the other are told.
 //!
-//! A case of one run of `compose` with status 0 or 1, and without `--nth`, is one of `best` too, by
-//! which the same is to come of it.
+//! A case of one run of `compose` with status 0 or 1, and without `--nth`, is one of `best` too, and
+//! one of `mixed` without `--best` is one with it, by which the same is to come of it.
 
 use crate::escapes::{decoded, decoded_text, number, numbered, quoted, words_in};
 use crate::shelf::{CaseShelf, Files};
@@ -56,7 +56,15 @@ pub struct Case {
     given: Option<u64>,
 }
 
-/// The words of `compose` for `best`, without a budget.
+/// Whether these words begin with one.
+fn begin_with(words: &[String], first: &str) -> bool {
+    match words.first() {
+        Some(word) => word.as_str() == first,
+        None => false,
+    }
+}
+
+/// The words of `compose` for `best`, or those of `mixed` for `mixed --best`, without a budget.
 fn words_of_best(alloc: Global, words: &[String]) -> Result<Vec<String>, Memory> {
     let mut best = Vec::new(alloc);
     let mut is_budget = false;
@@ -69,13 +77,16 @@ fn words_of_best(alloc: Global, words: &[String]) -> Result<Vec<String>, Memory>
         }
         is_budget = word == "--budget";
     }
+    if begin_with(words, "mixed") {
+        best.push(String::from_str(alloc, "--best")?)?;
+    }
     Ok(best)
 }
 
-/// Whether these words ask for the one of a number.
-fn asks_nth(words: &[String]) -> bool {
+/// Whether these words have one that `compose` and `mixed` by themselves haven't.
+fn ask_more(words: &[String]) -> bool {
     for word in words {
-        if word.as_str() == "--nth" {
+        if word.as_str() == "--nth" || word.as_str() == "--best" {
             return true;
         }
     }
@@ -256,17 +267,14 @@ impl Case {
         }
     }
 
-    /// Makes a case of `best` of one of `compose` with status 0 or 1 and without a number, with the
-    /// usual budget, and tells whether it is one.
+    /// Makes a case of `best` of one of `compose` with status 0 or 1 and without a number, or of
+    /// `mixed --best` of one of `mixed`, with the usual budget, and tells whether it has become one.
     pub fn begin_best(&mut self, alloc: Global) -> Result<bool, Memory> {
         let [words] = self.runs.as_slice() else {
             return Ok(false);
         };
-        let is_composed = match words.first() {
-            Some(word) => word.as_str() == "compose",
-            None => false,
-        };
-        if !is_composed || self.status > 1 || asks_nth(words) {
+        let is_composed = begin_with(words, "compose") || begin_with(words, "mixed");
+        if !is_composed || self.status > 1 || ask_more(words) {
             return Ok(false);
         }
         let best = words_of_best(alloc, words)?;

@@ -36,7 +36,7 @@ use Rattle.works.specs.Works.{BestEndsAsComposed, BestIsComposed, IsUnspent, Mak
 -- ---- what the texts tell
 
 -- there is one best setting
-best_is_one : (ex : Exercise) (sheet : Sheet) (s t : List (List Cell)) → IsBest ex sheet s → IsBest ex sheet t → s ≡ t
+pub best_is_one : (ex : Exercise) (sheet : Sheet) (s t : List (List Cell)) → IsBest ex sheet s → IsBest ex sheet t → s ≡ t
 best_is_one ex sheet s t one other =
     decide (earlier-cases s t (one.lawful.setting.whole ∙ sym other.lawful.setting.whole))
   where
@@ -81,7 +81,7 @@ same_told ex sheet budget other_budget Spent w one two told other unspent its = 
 same_told ex sheet budget other_budget v Spent one two told other unspent its = absurd (its refl)
 
 -- no more than so many are no more than that
-few_or_many : (Kind : List (List Cell) → Type 0) (count more : ℕ) → count ≤ more → HasAtMost Kind count
+pub few_or_many : (Kind : List (List Cell) → Type 0) (count more : ℕ) → count ≤ more → HasAtMost Kind count
     → HasMany Kind (more + 1) → ⊥
 few_or_many Kind count more within few many =
     let short = few many.lists many.differ many.kind in omega (arith, within, short, many.counted)
@@ -157,7 +157,7 @@ not_wide ex place count narrow wide =
     let few = narrow wide.column wide.within in omega (arith, few, wide.width, wide.wide)
 
 -- the first menu that is too wide is one
-same_width : (ex : Exercise) (place other : Place) (count its : ℕ) → IsTooWide ex place count → IsTooWide ex other its
+pub same_width : (ex : Exercise) (place other : Place) (count its : ℕ) → IsTooWide ex place count → IsTooWide ex other its
     → refusal.TooWide place count ≡ refusal.TooWide other its
 same_width ex place other count its wide too =
     let level : wide.column ≡ too.column = one_column (cases_lt wide.column too.column) (cases_lt too.column wide.column) in
@@ -210,7 +210,7 @@ same_made budget other_budget sheet ex (Err said) (Err other) told its unspent t
 
 module _ (Made Made' : Sheet → Work → Type 0) (sheets : List (List ℕ)) (one two : Work)
     (so : (sheet : Sheet) → Made sheet one → Made' sheet two → one ≡ two) where
-  same_over : OnSheet Made sheets one → OnSheet Made' sheets two → one ≡ two
+  pub same_over : OnSheet Made sheets one → OnSheet Made' sheets two → one ≡ two
   same_over (inl made) (inl its) =
       let same : made.sheet ≡ its.sheet = said_once (sheet_said sheets) made.sheet its.sheet made.said its.said in
       so its.sheet (subst (λ (s : Sheet). Made s one) same made.made) its.made
@@ -240,7 +240,7 @@ module _ (Made Made' : Sheet → Work → Type 0) (sheets : List (List ℕ)) (on
 
 module _ (Made Made' : Exercise → Work → Type 0) (bytes : List ℕ) (one two : Work)
     (so : (ex : Exercise) → Made ex one → Made' ex two → one ≡ two) where
-  same_on : OnText Made bytes one → OnText Made' bytes two → one ≡ two
+  pub same_on : OnText Made bytes one → OnText Made' bytes two → one ≡ two
   same_on (inl made) (inl its) =
       let same : made.exercise ≡ its.exercise = made.text.only its.exercise its.text.text in
       so its.exercise (subst (λ (ex : Exercise). Made ex one) same made.made) its.made

@@ -18,6 +18,8 @@ pub mod ExplainLemmas
 pub mod JoinedLemmas
 pub mod LittleLemmas
 pub mod MakeLemmas
+pub mod MixedAgree
+pub mod MixedBest
 pub mod MixedLemmas
 pub mod NearLemmas
 pub mod NewCantusLemmas

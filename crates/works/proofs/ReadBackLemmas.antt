@@ -15,10 +15,12 @@ use Rattle.fux_grid.specs.Grid.{Grid}
 use Rattle.fux_grid.specs.Menus.{cells_at}
 use Rattle.fux_grid.proofs.CellLemmas.{cells_at-given}
 use Rattle.fux_grid.proofs.GivenLemmas.{given_at-none}
+use Rattle.command_words.specs.Commands.{mixing}
 use Rattle.fux_text.specs.Lines.{setting_text}
 use Rattle.fux_text.specs.Texts.{IsTextOf}
 use Rattle.fux_text.proofs.OwnText.{note_text-back}
 use Rattle.fux_text.proofs.ReadTexts.{texts-of_one}
+use Rattle.penalty_sheet.specs.declared.sheet.Sheet.{Sheet}
 use Rattle.rule_law.specs.Prefixes.{IsSetting}
 use Rattle.species_space.specs.Loads.{IsBestWithin}
 use Rattle.species_space.specs.MixedLoads as mixed
@@ -27,7 +29,7 @@ use Rattle.works.specs.declared.refusal.Refusal.{Refusal}
 use Rattle.works.specs.declared.work.Output.{Output}
 use Rattle.works.specs.declared.work.Verdict.{Verdict}
 use Rattle.works.specs.Composed.{Composes, ComposesSharply, Tells, TellsBest, TellsSharply, penalty_line}
-use Rattle.works.specs.Mixed.{ComposesMixed, OnNames, TellsMixed}
+use Rattle.works.specs.Mixed.{MakesOfMixed, OnNames, TellsMixed, TellsMixedSharply}
 use Rattle.works.specs.ReadBack.{BestIsRead, ComposedIsRead, IsReadBack, MixedIsRead}
 use Rattle.works.specs.Searched.{IsBestOf}
 use Rattle.works.specs.Sheets.{OnSheet}
@@ -164,23 +166,36 @@ abbrev mixed_of : Exercise → List (Option ℕ) → Exercise
 mixed_of ex named = as_mixed ex (all_species_with ex named)
 
 pub mixed_is_read : MixedIsRead
-mixed_is_read named budget sheets text written (inl on) favorable short = named_as on.made
+mixed_is_read named budget by_sharper sheets text written (inl on) favorable short = named_as on.made
   where
-    over : OnSheet (λ sheet. ComposesMixed budget sheet on.exercise (mixed_of on.exercise named)) sheets (Ok written)
+    of_made : (sharper : Bool) (sheet : Sheet)
+        → MakesOfMixed (mixing budget sharper) sheet on.exercise (mixed_of on.exercise named) (Ok written)
         → IsReadBack text written.bytes
-    over (inl made) =
+    of_made false sheet made =
         read_back on.exercise (mixed_of on.exercise named)
         (mixed_alike on.exercise (all_species_with on.exercise named))
-        (mixed.IsBestWithin (mixed_of on.exercise named) made.sheet budget) (λ s penalty best. best.best.lawful.setting)
+        (mixed.IsBestWithin (mixed_of on.exercise named) sheet budget) (λ s penalty best. best.best.lawful.setting)
         text written.bytes on.text
+        (subst (λ (v : Verdict). TellsMixed on.exercise (mixed_of on.exercise named) sheet budget v written.bytes)
+        favorable made.tells) short
+    of_made true sheet made =
+        read_back on.exercise (mixed_of on.exercise named)
+        (mixed_alike on.exercise (all_species_with on.exercise named))
+        (IsBestOf (mixed_of on.exercise named) sheet) (λ s penalty best. best.best.lawful.setting) text written.bytes
+        on.text
         (subst
-        (λ (v : Verdict). TellsMixed on.exercise (mixed_of on.exercise named) made.sheet budget v written.bytes)
-        favorable made.made.tells) short
+        (λ (v : Verdict). TellsMixedSharply on.exercise (mixed_of on.exercise named) sheet budget v written.bytes)
+        favorable made.tells) short
+
+    over : OnSheet (λ sheet. MakesOfMixed (mixing budget by_sharper) sheet on.exercise (mixed_of on.exercise named))
+        sheets (Ok written) → IsReadBack text written.bytes
+    over (inl made) = of_made by_sharper made.sheet made.made
     over (inr none) = absurd (no_refusal written none.refusal none.is)
 
-    named_as : OnNames (λ of_named. OnSheet (λ sheet. ComposesMixed budget sheet on.exercise of_named) sheets) named
-        on.exercise (Ok written) → IsReadBack text written.bytes
+    named_as : OnNames
+        (λ of_named. OnSheet (λ sheet. MakesOfMixed (mixing budget by_sharper) sheet on.exercise of_named) sheets)
+        named on.exercise (Ok written) → IsReadBack text written.bytes
     named_as (inl free) = over free.made
     named_as (inr none) = absurd (no_refusal written none.refusal none.is)
-mixed_is_read named budget sheets text written (inr none) favorable short =
+mixed_is_read named budget by_sharper sheets text written (inr none) favorable short =
     absurd (no_refusal written none.refusal none.is)

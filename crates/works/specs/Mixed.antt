@@ -7,10 +7,13 @@ use Rattle.fux_grid.specs.Exercises.{AreSpecies, as_mixed}
 use Rattle.fux_grid.specs.Grid.{Grid}
 use Rattle.species_space.specs.MixedLoads.{IsBestWithin, IsLeastOver, IsNothingWithin}
 use Rattle.species_space.specs.Naming.{AreFreelyNamed, IsFirstMisnamed, all_species_with}
+use Rattle.species_space.specs.Trees.{mixed_settings}
+use Rattle.tree_search.specs.Quests.{IsOverBudget}
 use Rattle.penalty_sheet.specs.declared.sheet.Sheet.{Sheet}
 use Rattle.score_marker.specs.Marks.{AreMarks}
 use Rattle.command_words.specs.declared.command.MixedJob.{MixedJob}
-use Rattle.command_words.specs.declared.command.MixedJob.TheVariants.{Compose, Mark, Weigh, MarkXml, Picture}
+use Rattle.command_words.specs.declared.command.MixedJob.TheVariants.{Compose, Best, Mark, Weigh, MarkXml, Picture}
+use Rattle.fux_judge.specs.Lawful.{BoundsLawful, HasNoLawful}
 use Rattle.works.specs.declared.refusal.Refusal.{Refusal}
 use Rattle.works.specs.declared.refusal.Refusal.TheVariants.{With}
 use Rattle.works.specs.declared.work.Stop.{Stop}
@@ -20,7 +23,7 @@ use Rattle.works.specs.Charged.{WeighsMixed}
 use Rattle.works.specs.Composed.{IsComposition, TellsAs, TellsBest, TellsNone}
 use Rattle.works.specs.Marked.{RefusesNoSetting, TellsLines}
 use Rattle.works.specs.Rendered.{MarksPicture, MarksXml}
-use Rattle.works.specs.Searched.{RefusesWidth}
+use Rattle.works.specs.Searched.{IsBestOf, RefusesWidth}
 use Rattle.works.specs.Sheets.{OnSheet}
 use Rattle.works.specs.Texts.{OnText, Work}
 
@@ -38,6 +41,25 @@ abbrev pub ComposesMixed : ℕ → Sheet → Exercise → Exercise → Work → 
 ComposesMixed budget sheet ex mixed (Ok output) = IsComposition (TellsMixed ex mixed sheet budget) mixed output
 ComposesMixed budget sheet ex mixed (Err refusal) = RefusesWidth mixed refusal
 
+-- a number that no lawful setting's penalty is below; and a budget that isn't enough for the load of
+-- the least penalty, or where nothing is lawful, for all that is live, so that `mixed` is spent by
+-- it too
+pub record IsMixedBound (mixed : Exercise) (sheet : Sheet) (budget bound : ℕ) : Type 0 where
+  pub reached : BoundsLawful mixed sheet bound
+  pub over : IsOverBudget (mixed_settings mixed sheet) budget
+
+-- what a text tells by sharper floors: the best setting of the mixed exercise, over the cantus as it
+-- is; that no setting of it is lawful; or such a number
+abbrev pub TellsMixedSharply : Exercise → Exercise → Sheet → ℕ → Verdict → List ℕ → Type 0
+TellsMixedSharply ex mixed sheet budget =
+    TellsAs (TellsBest ex (IsBestOf mixed sheet)) (TellsNone (HasNoLawful mixed)) (IsMixedBound mixed sheet budget)
+
+-- `mixed --best` with this budget makes this of an exercise and the mixed one, over the sheet in use
+abbrev pub ComposesMixedSharply : ℕ → Sheet → Exercise → Exercise → Work → Type 0
+ComposesMixedSharply budget sheet ex mixed (Ok output) =
+    IsComposition (TellsMixedSharply ex mixed sheet budget) mixed output
+ComposesMixedSharply budget sheet ex mixed (Err refusal) = RefusesWidth mixed refusal
+
 -- these lines tell the marks that the mixed exercise has for the exercise's setting
 pub record TellsMixedScore (ex mixed : Exercise) (lines : MarkLines) : Type 0 where
   pub score : Grid
@@ -52,6 +74,7 @@ MarksMixed ex mixed (Err refusal) = RefusesNoSetting ex refusal
 -- a job makes this of an exercise and the mixed one, over the sheet in use
 abbrev pub MakesOfMixed : MixedJob → Sheet → Exercise → Exercise → Work → Type 0
 MakesOfMixed (Compose budget) sheet ex mixed = ComposesMixed budget sheet ex mixed
+MakesOfMixed (Best budget) sheet ex mixed = ComposesMixedSharply budget sheet ex mixed
 MakesOfMixed Mark sheet ex mixed = MarksMixed ex mixed
 MakesOfMixed Weigh sheet ex mixed = WeighsMixed sheet ex mixed
 MakesOfMixed MarkXml sheet ex mixed = MarksXml ex mixed

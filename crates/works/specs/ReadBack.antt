@@ -1,11 +1,11 @@
 -- What `compose`, `best` and `mixed` write is read back: it is a note text of the exercise, with
 -- the setting that was found. What `newcantus` writes is no such text, but its line is that of the
 -- cantus in one, where the number of a voice is put in.
-use Rattle.std.specs.Prelude.{◌≡◌, ℕ, ◌≤◌, List, ◌∷◌, ◌++◌, Option, Some, Ok, drop, length, take}
+use Rattle.std.specs.Prelude.{◌≡◌, ℕ, ◌≤◌, Bool, List, ◌∷◌, ◌++◌, Option, Some, Ok, drop, length, take}
 use Rattle.std.specs.Fmt.{decimal}
 use Rattle.class_marker.specs.Markings.{IsTheText}
 use Rattle.command_words.specs.declared.command.Job.TheVariants.{Best, Compose}
-use Rattle.command_words.specs.declared.command.MixedJob.TheVariants as mixed
+use Rattle.command_words.specs.Commands.{mixing}
 use Rattle.command_words.specs.declared.command.Search.{Search}
 use Rattle.command_words.specs.declared.command.Wanted.{Wanted}
 use Rattle.fux_grid.specs.declared.exercise.Exercise.{Exercise}
@@ -45,8 +45,8 @@ BestIsRead =
 
 abbrev pub MixedIsRead : Type 0
 MixedIsRead =
-    (named : List (Option ℕ)) (budget : ℕ) (sheets : List (List ℕ)) (text : List ℕ) (written : Output)
-    → MakesMixed named (mixed.Compose budget) sheets text (Ok written) → written.verdict ≡ Favorable
+    (named : List (Option ℕ)) (budget : ℕ) (by_sharper : Bool) (sheets : List (List ℕ)) (text : List ℕ)
+    (written : Output) → MakesMixed named (mixing budget by_sharper) sheets text (Ok written) → written.verdict ≡ Favorable
     → length written.bytes ≤ 65536 → IsReadBack text written.bytes
 
 -- a line that begins with the word `cantus`, with the number of a voice behind that word

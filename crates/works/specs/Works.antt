@@ -16,6 +16,7 @@ use Rattle.works.specs.declared.work.Stop.{Stop}
 use Rattle.works.specs.declared.work.Stop.TheVariants.{Refused, Memory}
 use Rattle.command_words.specs.declared.command.FileKind.{FileKind}
 use Rattle.command_words.specs.declared.command.Job.{Job}
+use Rattle.command_words.specs.declared.command.MixedJob.TheVariants as mixed
 use Rattle.command_words.specs.declared.command.Job.TheVariants.{Compose, Best, Mark, Weigh, Cantus, CantusCharges, Print, ToSmf, ToXml, MarkXml, Picture, MarkPicture, ComposeNth}
 use Rattle.cantus_prices.specs.declared.prices.PricedSheet.{PricedSheet}
 use Rattle.penalty_sheet.specs.declared.sheet.Sheet.{Sheet}
@@ -90,6 +91,21 @@ BestEndsAsComposed =
     (budget other : ℕ) (sheets : List (List ℕ)) (text : List ℕ) (composed best : Work) → budget ≤ other
     → MakesOfText (Compose budget) sheets text composed → MakesOfText (Best other) sheets text best
     → IsUnspent composed → composed ≡ best
+
+-- what `mixed` makes of the same files with the same names, by sharper floors or without them, with
+-- any budgets, is the same where neither is spent
+abbrev pub MixedBestIsMixed : Type 0
+MixedBestIsMixed =
+    (named : List (Option ℕ)) (budget other : ℕ) (sheets : List (List ℕ)) (text : List ℕ) (composed best : Work)
+    → MakesMixed named (mixed.Compose budget) sheets text composed → MakesMixed named (mixed.Best other) sheets text best
+    → IsUnspent composed → IsUnspent best → composed ≡ best
+
+-- and where it isn't spent without them, with no lower budget it makes just that by them
+abbrev pub MixedBestEndsAsMixed : Type 0
+MixedBestEndsAsMixed =
+    (named : List (Option ℕ)) (budget other : ℕ) (sheets : List (List ℕ)) (text : List ℕ) (composed best : Work)
+    → budget ≤ other → MakesMixed named (mixed.Compose budget) sheets text composed
+    → MakesMixed named (mixed.Best other) sheets text best → IsUnspent composed → composed ≡ best
 
 -- `certify` with a form makes this of the text of an exercise, and of the file of a sheet where one
 -- is given

@@ -53,7 +53,7 @@ pub fn best<R: Threads + Sync>(
 }
 
 /// What is written of what was found, by whichever search.
-fn found_output(alloc: Global, exercise: &Exercise, found: &Found) -> Result<Output, Memory>
+pub fn found_output(alloc: Global, exercise: &Exercise, found: &Found) -> Result<Output, Memory>
     requires valid { IsValid exercise.now }
     requires complete { HasWholeScore exercise.now found.now }
     ensures { IfOk result (λ output. output ≡ found_output exercise.now found.now) }

@@ -2,7 +2,7 @@
 
 ghost use Rattle.works.specs.Accepted.{CertifiedCantusIsAccepted, CertifiedIsAccepted};
 ghost use Rattle.works.specs.ReadBack.{BestIsRead, ComposedIsRead, MixedIsRead, NewCantusIsRead};
-ghost use Rattle.works.specs.Works.{BestEndsAsComposed, BestIsComposed};
+ghost use Rattle.works.specs.Works.{BestEndsAsComposed, BestIsComposed, MixedBestEndsAsMixed, MixedBestIsMixed};
 
 /// What `compose` and `best` make of the same files is the same, where neither tells that its
 /// budget was spent; and `best` tells that only where `compose` with the same budget does. It does
@@ -10,6 +10,14 @@ ghost use Rattle.works.specs.Works.{BestEndsAsComposed, BestIsComposed};
 pub fn best_is_composed()
     ensures same { BestIsComposed }
     ensures ends { BestEndsAsComposed }
+{}
+
+/// What `mixed` makes of the same files by sharper floors and without them is the same, where
+/// neither tells that its budget was spent; and by sharper floors it tells that only where it does
+/// without them, with the same budget. It does nothing, and tells what is proved of the two.
+pub fn mixed_best_is_mixed()
+    ensures same { MixedBestIsMixed }
+    ensures ends { MixedBestEndsAsMixed }
 {}
 
 /// What `certify` writes, `check` of the same exercise accepts, and tells the penalty that was

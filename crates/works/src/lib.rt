@@ -36,7 +36,7 @@ pub use cantus_certifying::perform_cantus;
 pub use certifying::perform_certify;
 pub use complaint::{Complaint, FileName};
 pub use gathering::{whole_class, whole_files};
-pub use law::{best_is_composed, certified_is_accepted, written_is_read};
+pub use law::{best_is_composed, certified_is_accepted, mixed_best_is_mixed, written_is_read};
 pub use making::make;
 pub use refusal::Refusal;
 pub use work::{Output, Verdict};

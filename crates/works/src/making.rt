@@ -75,7 +75,7 @@ pub fn make<'a, F: Shelf, R: Threads + Sync>(
             sheet,
             named,
             job,
-        } => on_mixed(alloc, name, sheet, &named, job, shelf),
+        } => on_mixed(rt, alloc, name, sheet, &named, job, shelf),
         Making::Check {
             name,
             certificate,

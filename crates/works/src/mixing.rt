@@ -13,7 +13,7 @@ ghost use Rattle.works.specs.Blame.{Blames, BlamesNoFile, IsUnserved, ServesTask
 ghost use Rattle.works.specs.Little.{ReadsLittle};
 ghost use Rattle.command_words.specs.Commands.{AreNamed, on_mixed, sheet_named};
 ghost use Rattle.works.specs.Composed.{penalty_line};
-ghost use Rattle.works.specs.Mixed.{ComposesMixed, MakesMixed, MakesOfMixed, MarksMixed, NamesSpecies};
+ghost use Rattle.works.specs.Mixed.{ComposesMixed, ComposesMixedSharply, MakesMixed, MakesOfMixed, MarksMixed, NamesSpecies};
 ghost use Rattle.works.specs.Endings.{IsMade};
 ghost use Rattle.works.specs.Rendered.{MarksPicture, MarksXml};
 ghost use Rattle.works.specs.Searched.{IsSpaceOf, StopsAtWidth};
@@ -21,13 +21,14 @@ ghost use Rattle.works.specs.Works.{Answers, OnTexts};
 
 use crate::charging::weigh_mixed;
 use crate::complaint::Complaint;
-use crate::composing::best_text;
+use crate::composing::{best_text, found_output};
 use crate::content::read_content;
 use crate::exercise::{LONGEST_TEXT, exercise_of};
 use crate::making::{read_weights, said};
 use crate::marking::output_of;
 use crate::refusal::Refusal;
 use crate::rendering::{marked_document, verdict_of};
+use crate::searching::sharp_setting;
 use crate::telling::{Telling, told};
 use crate::weighing::sheet_of;
 use crate::work::{Output, Stop};
@@ -42,10 +43,12 @@ use score_marker::{Mark, marks};
 use score_picture::picture;
 use species_space::{Mixed, MixedSpace, TableFault, named_species, score_of};
 use std::alloc::Global;
+use std::thread::Threads;
 
 /// What a job makes of the exercise in a file with the species that are named for its voices, over
 /// the sheet of weights in another where one is named.
-pub fn on_mixed<'a, F: Shelf>(
+pub fn on_mixed<'a, F: Shelf, R: Threads + Sync>(
+    rt: &R,
     alloc: Global,
     name: &'a str,
     sheet: Option<&'a str>,
@@ -67,12 +70,17 @@ pub fn on_mixed<'a, F: Shelf>(
 {
     let text = read_content(alloc, shelf, name, LONGEST_TEXT)?;
     let weights = read_weights(alloc, shelf, sheet)?;
-    said(alloc, name, of_texts(alloc, &text, &weights, named, job))
+    said(
+        alloc,
+        name,
+        of_texts(rt, alloc, &text, &weights, named, job),
+    )
 }
 
 /// What a job makes of the text of an exercise with the species that are named, over the file of a
 /// sheet where one is given.
-fn of_texts(
+fn of_texts<R: Threads + Sync>(
+    rt: &R,
     alloc: Global,
     text: &Text,
     weights: &Option<Text>,
@@ -90,7 +98,7 @@ fn of_texts(
         ex: &exercise,
         species,
     };
-    of_mixed(alloc, &mixed, &sheet, job)
+    of_mixed(rt, alloc, &mixed, &sheet, job)
 }
 
 /// The species of each voice, or a refusal of the first that may not be named.
@@ -106,12 +114,19 @@ pub fn species_of(exercise: &Exercise, named: &Named) -> Result<[u8; 4], Stop>
 }
 
 /// What a job makes of a mixed exercise, over a sheet of weights.
-fn of_mixed(alloc: Global, m: &Mixed<'_>, sheet: &Sheet, job: MixedJob) -> Result<Output, Stop>
+fn of_mixed<R: Threads + Sync>(
+    rt: &R,
+    alloc: Global,
+    m: &Mixed<'_>,
+    sheet: &Sheet,
+    job: MixedJob,
+) -> Result<Output, Stop>
     requires { IsMixed m.now }
     ensures { Answers (MakesOfMixed job sheet.now m.now.ex.now (exercise_of m.now)) result }
 {
     match job {
         MixedJob::Compose { budget } => compose_mixed(alloc, m, sheet, budget),
+        MixedJob::Best { budget } => best_mixed(rt, alloc, m, sheet, budget),
         MixedJob::Mark => mark_mixed(alloc, m),
         MixedJob::Weigh => weigh_mixed(alloc, m, sheet),
         MixedJob::MarkXml => mark_xml_mixed(alloc, m),
@@ -131,6 +146,26 @@ fn compose_mixed(alloc: Global, m: &Mixed<'_>, sheet: &Sheet, budget: u32) -> Re
         before: None,
     };
     Ok(told(alloc, &sought, search)?)
+}
+
+/// The same by sharper floors. The settings of a mixed exercise are those of an exercise, and so the
+/// search of `best` finds the best of them.
+fn best_mixed<R: Threads + Sync>(
+    rt: &R,
+    alloc: Global,
+    m: &Mixed<'_>,
+    sheet: &Sheet,
+    budget: u32,
+) -> Result<Output, Stop>
+    requires { IsMixed m.now }
+    ensures { Answers (ComposesMixedSharply budget sheet.now m.now.ex.now (exercise_of m.now))
+        result }
+{
+    let mixed = mixed_as(m.ex, m.species);
+    match sharp_setting(rt, alloc, &mixed, sheet, budget) {
+        Ok(found) => Ok(found_output(alloc, m.ex, &found)?),
+        Err(stop) => Err(stop),
+    }
 }
 
 /// The space of the settings of a mixed exercise, or a refusal of its first menu that is too wide.

@@ -22,9 +22,11 @@ pub returns-clause-asked : goal.returns-clause-asked
 returns-clause-asked c =
     rw (
       c.mixed_by.ensures.asked,
+      c.mixing.ensures,
       ← c.in_ok-name.ensures,
       ← c.in_ok-list.ensures,
       ← c.value-3.ensures,
       ← c.in_ok-budget.ensures,
       ← c.value-sheet.ensures,
+      ← c.is_set-by_sharper.ensures,
     ) refl
