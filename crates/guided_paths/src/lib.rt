@@ -246,11 +246,16 @@ mod tests {
             // for all
             (shut, 2_376, Want::Nothing),
             (shut, 2_375, Want::SpentAt(0)),
-            // rounds at 0 to 15, which open the first row; then from 16, 18, 22, 30, 46 and 78 on:
-            // the last one opens the first row, a leaf worth 100 and the one worth 99
-            (steep, 5, Want::Found(&[0, 1], 99)),
-            (steep, 4, Want::SpentAt(78)),
-            (steep, 3, Want::SpentAt(78)),
+            // rounds at 0 to 15, which open the first row, three nodes; then from 16, 18, 22, 30 and
+            // 46 on: 63 in all. The one from 78 on opens the first row, a leaf worth 100 and the one
+            // worth 99. Eight budgets of 9 pay for them all, and eight of 8 for 63 and one more; the
+            // front needs ten
+            (steep, 9, Want::Found(&[0, 1], 99)),
+            (steep, 8, Want::SpentAt(78)),
+            // eight budgets pay for thirteen rounds, for ten, and for eight
+            (steep, 5, Want::SpentAt(13)),
+            (steep, 4, Want::SpentAt(10)),
+            (steep, 3, Want::SpentAt(8)),
             (steep, 2, Want::SpentAt(0)),
             (&[], 0, Want::Found(&[], 0)),
         ];
@@ -272,16 +277,16 @@ mod tests {
         let grid = Grid {
             costs: Vec::from_slice(
                 rt.alloc(),
-                &[[Some(0); COLUMNS], [Some(100), Some(99), Some(100)]],
+                &[[Some(0); COLUMNS], [Some(15), Some(14), Some(15)]],
             )?,
         };
+        // ten rounds open the first row, and then its three nodes aren't paid for
         let Outcome::Spent { bound } = search_by_bounds(rt.alloc(), &grid, 0, 4)? else {
             return Err("not spent".into());
         };
-        // rounds at 78 to 93, which open the first row; then from 94 and 96 on: the last one leaves
-        // out what is worth 100, and opens the first row and the leaf worth 99
-        let want = Want::Found(&[0, 1], 99);
-        assert!(rt; bound == 78);
+        // rounds at 10 to 13 open the first row, and the last one leaves out what is worth 15
+        let want = Want::Found(&[0, 1], 14);
+        assert!(rt; bound == 10);
         assert!(rt; is_wanted(&search_by_bounds(rt.alloc(), &grid, bound, 4)?, &want));
         Ok(())
     }
