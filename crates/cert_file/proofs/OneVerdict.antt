@@ -17,7 +17,7 @@ use Rattle.cert_file.proofs.PieceLemmas.{nothing_begins}
 use Rattle.cert_file.proofs.TextLemmas.{has_feed, line_begins, line_split, same_line, such_of}
 use Rattle.cert_text.specs.declared.answers.CertFault.TheVariants.{CertHead as WrongHead, CertWord, CertEnd, Memory}
 use Rattle.cert_text.specs.declared.answers.Why.{Why}
-use Rattle.cert_text.specs.declared.answers.Why.TheVariants.{Head, False, Over, Short, Potential}
+use Rattle.cert_text.specs.declared.answers.Why.TheVariants.{Head, False, Over, Short, Potential, Price}
 use Rattle.cert_text.specs.declared.claim.Claim.{Claim}
 use Rattle.cert_text.specs.Lines.{BeginsClaim, HasNoFeed, IsClaim, claim_line, claim_word, line_part}
 use Rattle.cert_text.proofs.PieceLemmas.{Alone}
@@ -272,6 +272,7 @@ module _ {H X : Type 0} (subject : Subject H X) (alone : Alone subject.IsHead) (
           told = ap (λ n. verdicts.Claim (record { number = n; why = Over })) it.numbered;
         }
     of_refusal number Potential unlike it = absurd it
+    of_refusal number Price unlike it = absurd it
     of_refusal number Short unlike it =
         from_taken it.count (it.next ∷ it.owed) bytes [] _ it.taken ((within it.short).0 ∙ sym (append-nil bytes)) record {
           line = Unended;
@@ -361,6 +362,7 @@ module _ {H X : Type 0} (subject : Subject H X) (alone : Alone subject.IsHead) (
       by number Over it = judged head (of_refusal head number Over (λ e. cc) it)
       by number Short it = judged head (of_refusal head number Short (λ e. cc) it)
       by number Potential it = absurd it
+      by number Price it = absurd it
   kind_behind (verdicts.Text (CertWord at)) head it = judged head (of_word head at it)
   kind_behind (verdicts.Text (CertEnd at)) head it = judged head (of_end head at it)
   kind_behind (verdicts.Text (WrongHead at)) head it = absurd it.fault_at

@@ -8,7 +8,7 @@ use Rattle.cert_file.specs.declared.verdict.Verdict.TheVariants as verdict
 use Rattle.cert_text.specs.declared.answers.Accepted.{Accepted}
 use Rattle.cert_text.specs.declared.answers.CertFault.{CertFault}
 use Rattle.cert_text.specs.declared.answers.Why.{Why}
-use Rattle.cert_text.specs.declared.answers.Why.TheVariants.{Head, False, Over, Short, Potential}
+use Rattle.cert_text.specs.declared.answers.Why.TheVariants.{Head, False, Over, Short, Potential, Price}
 use Rattle.cert_text.specs.declared.claim.Claim.{Claim}
 use Rattle.cert_text.specs.Lines.{IsClaim, claim_line}
 use Rattle.fux_port.specs.Files.{HasFile}
@@ -71,6 +71,7 @@ RefusesFor subject head number False bytes = HasFalse subject head number bytes
 RefusesFor subject head number Over bytes = HasOver subject head number bytes
 RefusesFor subject head number Short bytes = IsShort subject head number bytes
 RefusesFor subject head number Potential bytes = ⊥
+RefusesFor subject head number Price bytes = ⊥
 
 -- what a verdict says of bytes with a sound head
 abbrev pub FindsIn : {H X : Type 0} → Subject H X → H → Verdict → List ℕ → Type 0

@@ -9,7 +9,7 @@ use Rattle.cert_file.specs.declared.verdict.Verdict.{Verdict}
 use Rattle.cert_file.specs.declared.verdict.Verdict.TheVariants as verdict
 use Rattle.cert_text.specs.declared.answers.CertFault.TheVariants.{CertHead, CertWord, CertEnd, Memory}
 use Rattle.cert_text.specs.declared.answers.Why.{Why}
-use Rattle.cert_text.specs.declared.answers.Why.TheVariants.{Head, False, Over, Short, Potential}
+use Rattle.cert_text.specs.declared.answers.Why.TheVariants.{Head, False, Over, Short, Potential, Price}
 use Rattle.cert_text.specs.declared.claim.Claim.{Claim}
 use Rattle.cert_text.specs.Lines.{line_part}
 
@@ -42,14 +42,16 @@ pub record IsReadToClaim {H X : Type 0} (subject : Subject H X) (head : H) (numb
     pub begins : StartsWith bytes front
     pub near : read ≤ length front + longest_piece
 
--- how much is read where a claim is refused, a head, or a number that is stated: numbers are judged
--- when all of them are read. A claim that is wanting takes the whole file
+-- how much is read where a claim is refused, a head, or a number or a price that is stated: numbers are
+-- judged when all of them are read, and prices stand in the first piece. A claim that is wanting takes
+-- the whole file
 abbrev pub IsReadFor : {H X : Type 0} → Subject H X → H → ℕ → ℕ → Why → List ℕ → Type 0
 IsReadFor subject head read number False bytes = IsReadToClaim subject head number read bytes
 IsReadFor subject head read number Over bytes = IsReadToClaim subject head number read bytes
 IsReadFor subject head read number Potential bytes = IsReadToClaim subject head 0 read bytes
 IsReadFor subject head read number Short bytes = ⊤
 IsReadFor subject head read number Head bytes = read ≤ longest_piece
+IsReadFor subject head read number Price bytes = read ≤ longest_piece
 
 -- how much is read where this is the verdict: no more than a piece where no head stands at the front,
 -- or beyond a line that is wrong. A file that is accepted, or ends where it may not, is read to its

@@ -32,7 +32,7 @@ fn accepted_text(alloc: Global, answer: Accepted) -> Result<String, Memory>
     Ok(text)
 }
 
-/// Which claim, or which number that is stated, is refused, and why.
+/// Which claim, or which number or price that is stated, is refused, and why.
 fn refused_text(alloc: Global, refused: Refused) -> Result<String, Memory>
     ensures { IfOk result (λ text. string_bytes text ≡ refused_line refused) }
 {
@@ -44,6 +44,7 @@ fn refused_text(alloc: Global, refused: Refused) -> Result<String, Memory>
         Why::Over => write!(text, "refused at claim {number}: over\n")?,
         Why::Short => write!(text, "refused at claim {number}: short\n")?,
         Why::Potential => write!(text, "refused at potential {number}: false\n")?,
+        Why::Price => write!(text, "refused at price {number}: false\n")?,
     }
     Ok(text)
 }

@@ -5,7 +5,7 @@ use Rattle.std.specs.Prelude.{IfSome, slice_index_or}
 use Rattle.std.proofs.Math.ListN.{get_or-append}
 use Rattle.std.proofs.lemmas.List.{get_or-append-add, get_or-map, length-map}
 use Rattle.cert_text.specs.declared.answers.Form.{Form}
-use Rattle.cert_text.specs.declared.answers.Form.TheVariants.{First, Second}
+use Rattle.cert_text.specs.declared.answers.Form.TheVariants.{First, Second, Third}
 use Rattle.cert_text.specs.declared.potential.Potential.TheVariants.{NoChain}
 use Rattle.cert_law.specs.Entries.{columns_before, entry_of, menu_column, number_in}
 use Rattle.cert_law.specs.Rests.{AreRests, entries_at, entries_from, entries_of, rest_behind, stated_in, stating}
@@ -127,6 +127,7 @@ module _ (ex : Exercise) (sheet : Sheet) where
   pub stated_are_rests : (form : Form) → IfSome (stated_in form ex sheet) (AreRests ex sheet)
   stated_are_rests First = tt
   stated_are_rests Second = entries_are_rests
+  stated_are_rests Third = tt
 
   -- what the tables say is what they state
   pub start_is_rest : (rest : Option ℕ) → IsStart ex sheet rest → rest ≡ rest_of ex sheet []

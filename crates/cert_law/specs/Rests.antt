@@ -3,7 +3,7 @@
 use Rattle.std.specs.Prelude.{◌≡◌, ℕ, suc, ◌-◌, ◌<◌, ◌≤◌, List, [], ◌∷◌, Option, Some, None, length, map}
 use Rattle.std.specs.List.{flat_map, range_with_len}
 use Rattle.cert_text.specs.declared.answers.Form.{Form}
-use Rattle.cert_text.specs.declared.answers.Form.TheVariants.{First, Second}
+use Rattle.cert_text.specs.declared.answers.Form.TheVariants.{First, Second, Third}
 use Rattle.cert_text.specs.declared.potential.Potential.{Potential}
 use Rattle.cert_text.specs.declared.potential.Potential.TheVariants.{Least, NoChain}
 use Rattle.cert_law.specs.Entries.{entry_at, entry_count, entry_of, menu_column, number_in}
@@ -47,10 +47,11 @@ entries_from ex sheet i count = flat_map (entries_at ex sheet) (range_with_len i
 unfoldable pub entries_of : Exercise → Sheet → List Potential
 entries_of ex sheet = stating (rest_of ex sheet []) ∷ entries_from ex sheet 0 (columns_in ex)
 
--- what is stated in a form
+-- the numbers that are stated in a form: the third states prices in their place
 abbrev pub stated_in : Form → Exercise → Sheet → Option (List Potential)
 stated_in First ex sheet = None
 stated_in Second ex sheet = Some (entries_of ex sheet)
+stated_in Third ex sheet = None
 
 -- each weight of the sheet has sixteen bits at most, as its type has
 abbrev pub HasSmallWeights : Sheet → Type 0

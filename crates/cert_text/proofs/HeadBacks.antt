@@ -1,4 +1,4 @@
--- One head of either form at most stands at the front of bytes (`heads_are_one`), whatever stands
+-- One head of any form at most stands at the front of bytes (`heads_are_one`), whatever stands
 -- behind it (`heads_before`), and its text is short (`heads_are_brief`), so that a long front of
 -- bytes tells where none goes on (`stops_whole`).
 use Rattle.std.proofs.Common.{◌≡◌, ℕ, ◌+◌, ◌≤◌, ◌<◌, ◌^◌, List, ◌∷◌, ◌++◌, length, length-append, take, Option, Some, None, Result, Ok, refl, sym, ap, subst, ◌∙◌, arith}
@@ -17,7 +17,7 @@ use Rattle.fux_text.proofs.ReadTexts.{lines-read}
 use Rattle.cert_text.specs.declared.answers.CertHead.{CertHead}
 use Rattle.cert_text.specs.declared.answers.CertHead.TheVariants.{Best, Nothing}
 use Rattle.cert_text.specs.declared.answers.Form.{Form}
-use Rattle.cert_text.specs.declared.answers.Form.TheVariants.{First, Second}
+use Rattle.cert_text.specs.declared.answers.Form.TheVariants.{First, Second, Third}
 use Rattle.cert_text.specs.HeadTexts.{BeginsText, HasLines, Heads, TextStops, penalty_of}
 use Rattle.cert_text.specs.HeadRows.{closing_text, opening_text}
 use Rattle.cert_text.specs.SingItems.{IsHeadText, best_text, nothing_text}
@@ -97,6 +97,7 @@ opening-short form = refl
 closing-short : (form : Form) → length (closing_text form) ≤ 11
 closing-short First = omega arith
 closing-short Second = omega arith
+closing-short Third = omega arith
 
 best-short : (form : Form) (penalty : ℕ) (lines : List ℕ) → penalty < 2 ^ 64
     → length (best_text form penalty lines) ≤ 48 + length lines
@@ -113,6 +114,7 @@ best-short form penalty lines below =
 nothing-short : (form : Form) → length (nothing_text form) ≤ 27
 nothing-short First = omega arith
 nothing-short Second = omega arith
+nothing-short Third = omega arith
 
 -- so it has at most 4,876 bytes
 pub heads_are_brief : (ex : Exercise) (form : Form) (text : List ℕ) (penalty : Option ℕ) → IsValid ex

@@ -12,7 +12,7 @@ use Rattle.cert_text.specs.declared.answers.CertFault.{CertFault}
 use Rattle.cert_text.specs.declared.answers.CertHead.{CertHead}
 use Rattle.cert_text.specs.declared.answers.CertHead.TheVariants.{Best, Nothing}
 use Rattle.cert_text.specs.declared.answers.Form.{Form}
-use Rattle.cert_text.specs.declared.answers.Form.TheVariants.{First, Second}
+use Rattle.cert_text.specs.declared.answers.Form.TheVariants.{First, Second, Third}
 use Rattle.cert_text.specs.HeadRows.{IsUpTo}
 use Rattle.cert_text.specs.HeadTexts.{AnswersTexts, Heads, UnlessMemory, penalty_of}
 use Rattle.cert_text.specs.SingItems.{AreWrittenOf, best_text}
@@ -113,3 +113,4 @@ answers-one ex last bytes (Err fault) form head n valid among ok texts heads =
 pub is_first : (form : Form) → IsUpTo First form → form ≡ First
 is_first First among = refl
 is_first Second among = absurd among
+is_first Third among = absurd among

@@ -8,7 +8,7 @@ use Rattle.fux_grid.specs.declared.exercise.Exercise.{Exercise}
 use Rattle.fux_grid.specs.Exercises.{IsValid}
 use Rattle.fux_text.specs.Lines.{free_voices}
 use Rattle.cert_text.specs.declared.answers.Form.{Form}
-use Rattle.cert_text.specs.declared.answers.Form.TheVariants.{First, Second}
+use Rattle.cert_text.specs.declared.answers.Form.TheVariants.{First, Second, Third}
 use Rattle.cert_text.specs.HeadRows.{BestRow, FeedRow, FormDigit, FormRow, HeadRow, HeadSaid, IsKind, IsUpTo, Itself, KindRow, KindsRow, NothingRow, NumberLine, SingLines, closing_text, feed_text, form_byte, name_text, none_rest, opening_text}
 use Rattle.cert_text.specs.HeadTexts.{TextStops}
 use Rattle.cert_text.specs.Pieces.{Fixed, Literal, OneByte, Reads, Stops, Then}
@@ -93,6 +93,7 @@ module _ (last : Form) where
       by : (form : Form) → IsUpTo form First
       by First = tt
       by Second = tt
+      by Third = tt
 
   pub digit-alone : Alone (FormDigit last)
   digit-alone x y f g a b s t e =
@@ -104,8 +105,13 @@ module _ (last : Form) where
       one_form : (x y : Form) → form_byte x ≡ form_byte y → x ≡ y
       one_form First First e = refl
       one_form First Second e = absurd (omega (arith, e))
+      one_form First Third e = absurd (omega (arith, e))
       one_form Second First e = absurd (omega (arith, e))
       one_form Second Second e = refl
+      one_form Second Third e = absurd (omega (arith, e))
+      one_form Third First e = absurd (omega (arith, e))
+      one_form Third Second e = absurd (omega (arith, e))
+      one_form Third Third e = refl
 
   digit-plain : Plain (FormDigit last)
   digit-plain = record { alone = digit-alone; live = (First, 49 ∷ [], (one_up_to, refl)) }
@@ -386,9 +392,9 @@ module _ (ex : Exercise) (valid : IsValid ex) where
       → m ≤ length bytes → IsHeadText ex form (take n bytes) penalty → IsHeadText ex other (take m bytes) total
       → (form ≡ other) × (n ≡ m) × (penalty ≡ total)
   same-head bytes form other n m penalty total within within' text text' =
-      let one = row-of_text Second form tt (take n bytes) penalty text in
-      let two = row-of_text Second other tt (take m bytes) total text' in
-      let same = stands-one (HeadRow ex Second) (head-plain Second).alone bytes (saying form penalty one.0)
+      let one = row-of_text Third form tt (take n bytes) penalty text in
+      let two = row-of_text Third other tt (take m bytes) total text' in
+      let same = stands-one (HeadRow ex Third) (head-plain Third).alone bytes (saying form penalty one.0)
       (saying other total two.0) n m (record { within = within; text = one.1 })
       (record { within = within'; text = two.1 }) in
       (ap (λ (s : HeadSaid). s.form) same.0, same.1, ap (λ (s : HeadSaid). s.penalty) same.0)

@@ -14,7 +14,7 @@ use Rattle.fux_text.specs.Items.{item_name}
 use Rattle.fux_text.specs.Lines.{free_among, free_voices}
 use Rattle.fux_text.specs.Sing.{held}
 use Rattle.cert_text.specs.declared.answers.Form.{Form}
-use Rattle.cert_text.specs.declared.answers.Form.TheVariants.{First, Second}
+use Rattle.cert_text.specs.declared.answers.Form.TheVariants.{First, Second, Third}
 use Rattle.cert_text.specs.declared.scan.Scan.{Scan}
 use Rattle.cert_text.specs.Pieces.{Fixed, Literal, OneByte, Then}
 
@@ -127,12 +127,17 @@ Itself L said text = (said ≡ text) × L tt text
 abbrev pub form_byte : Form → ℕ
 form_byte First = 49
 form_byte Second = 50
+form_byte Third = 51
 
 -- the form is this one, or an earlier one
 abbrev pub IsUpTo : Form → Form → Type 0
 IsUpTo First First = ⊤
 IsUpTo First Second = ⊥
-IsUpTo Second form = ⊤
+IsUpTo First Third = ⊥
+IsUpTo Second First = ⊤
+IsUpTo Second Second = ⊤
+IsUpTo Second Third = ⊥
+IsUpTo Third form = ⊤
 
 -- the digit of such a form, which says the form
 abbrev pub FormDigit : Form → Form → List ℕ → Type 0
@@ -153,10 +158,12 @@ opening_text form = name_text ++ form_byte form ∷ feed_text
 abbrev pub claims_text : List ℕ
 claims_text = codes "claims" ++ 10 ∷ []
 
--- the last line of a head: what stands behind it
+-- the last line of a head: what stands behind it; behind a head of the third form stand lists, which
+-- begin with lines of their own
 abbrev pub closing_text : Form → List ℕ
 closing_text First = claims_text
 closing_text Second = codes "potentials" ++ 10 ∷ []
+closing_text Third = []
 
 -- what a head says: its form, its penalty, unless there is no setting, and its lines
 pub record HeadSaid : Type 0 where

@@ -41,7 +41,7 @@ TextsAreOfHeads = (ex : Exercise) (form : Form) (bytes : List ℕ) (n : ℕ) (pe
     → IsHeadText ex form (take n bytes) penalty
     → (head : CertHead) × (penalty_of head ≡ penalty) × Heads ex form bytes head n
 
--- and one head of either form at most stands there
+-- and one head of any form at most stands there
 abbrev pub HeadsAreOne : Type 0
 HeadsAreOne = (ex : Exercise) (bytes : List ℕ) (form other : Form) (head second : CertHead) (n m : ℕ) → IsValid ex
     → Heads ex form bytes head n → Heads ex other bytes second m → (form ≡ other) × (head ≡ second) × (n ≡ m)

@@ -18,6 +18,8 @@ pub enum Form {
     First,
     /// A number for each column of the menus, which its checker compares.
     Second,
+    /// Lists of prices, by which its checker works numbers.
+    Third,
 }
 
 /// What is wrong with the text of a certificate, at a byte counted from 0.
@@ -45,14 +47,14 @@ pub enum CertWrite {
 }
 
 /// A claim that is refused, counted from 1, or the head as claim 0; or a number that is stated,
-/// counted from 1, the start's first.
+/// counted from 1, the start's first, or a price, counted from 1 over all lists.
 #[derive(Clone, Copy, Debug, PartialEq, Eq)]
 pub struct Refused {
     pub number: u64,
     pub why: Why,
 }
 
-/// Why a claim, a head, or a number that is stated is refused.
+/// Why a claim, a head, or a number or a price that is stated is refused.
 #[derive(Clone, Copy, Debug, PartialEq, Eq)]
 pub enum Why {
     /// The head's setting isn't lawful, or has another penalty.
@@ -65,6 +67,8 @@ pub enum Why {
     Short,
     /// A stated number isn't true of its column, or of the start.
     Potential,
+    /// A price is above what strikes cost.
+    Price,
 }
 
 /// What a certificate that is accepted shows.

@@ -70,11 +70,12 @@ fn head_up_to(
     }
 }
 
-/// The head at the front of a certificate of either form, with its form and its length.
+/// The head at the front of a certificate of any form, with its form and its length: that of the
+/// third form through its last `sing` line, or `none`, behind which lists of prices stand.
 ///
-/// It is refused at the first byte by which no head of either form goes on, or at the end of bytes
-/// that end within a head. Whether its setting is lawful, and has the penalty, isn't judged here.
-/// What stands behind a head isn't looked at, and no head is as long as its limit of 65,536 bytes:
+/// It is refused at the first byte by which no head of any form goes on, or at the end of bytes that
+/// end within a head. Whether its setting is lawful, and has the penalty, isn't judged here. What
+/// stands behind a head isn't looked at, and no head is as long as its limit of 65,536 bytes:
 /// a bar has at most eight items, of at most six bytes with the space before each, so that a head
 /// has fewer than 5,000 ([`heads_are_of_settings`]).
 pub fn head_any(
@@ -84,21 +85,21 @@ pub fn head_any(
 ) -> Result<(Form, CertHead, usize), CertFault>
     requires { IsValid ex.now }
 
-    // A head that is answered stands at the front, and a fault is where no head of either form goes
+    // A head that is answered stands at the front, and a fault is where no head of any form goes
     // on.
     ensures ok { IfOk result (λ found. Heads ex.now found.0 bytes.now found.1 found.2) }
-    ensures fault { IfErr result (IsHeadFault ex.now Form.Second bytes.now) }
+    ensures fault { IfErr result (IsHeadFault ex.now Form.Third bytes.now) }
 
     // Where a head or its text stands at the front, it is answered, unless memory runs out.
     ensures only { (form : AForm) (head : CertHead) (n : ℕ) → Heads ex.now form bytes.now head n
         → UnlessMemory result (λ found. found ≡ (form, head, n)) }
-    ensures texts { AnswersTexts ex.now Form.Second bytes.now result }
+    ensures texts { AnswersTexts ex.now Form.Third bytes.now result }
 {
-    head_up_to(alloc, ex, Form::Second, bytes)
+    head_up_to(alloc, ex, Form::Third, bytes)
 }
 
-/// The head at the front of a certificate of the first form, and its length. A head of the second
-/// form is refused at the digit of its form. The rest is as [`head_any`] has it.
+/// The head at the front of a certificate of the first form, and its length. A head of another form
+/// is refused at the digit of its form. The rest is as [`head_any`] has it.
 pub fn head(alloc: Global, ex: &Exercise, bytes: &[u8]) -> Result<(CertHead, usize), CertFault>
     requires { IsValid ex.now }
 

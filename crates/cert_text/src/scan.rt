@@ -350,6 +350,7 @@ fn closing(form: Form) -> &'static [u8]
     match form {
         Form::First => b"claims\n",
         Form::Second => b"potentials\n",
+        Form::Third => b"",
     }
 }
 
@@ -379,6 +380,7 @@ fn none_rest(form: Form) -> &'static [u8]
     match form {
         Form::First => b"one\nclaims\n",
         Form::Second => b"one\npotentials\n",
+        Form::Third => b"one\n",
     }
 }
 
@@ -432,6 +434,12 @@ fn form_of(last: Form, byte: u8) -> Option<Form>
         Form::Second => match byte {
             b'1' => Some(Form::First),
             b'2' => Some(Form::Second),
+            _ => None,
+        },
+        Form::Third => match byte {
+            b'1' => Some(Form::First),
+            b'2' => Some(Form::Second),
+            b'3' => Some(Form::Third),
             _ => None,
         },
     }
