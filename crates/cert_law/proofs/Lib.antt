@@ -6,6 +6,7 @@ pub mod FirstLemmas
 pub mod KnownLemmas
 pub mod NumberLemmas
 pub mod Orders
+pub mod PrefixTruths
 pub mod Prefixes
 pub mod RestEntries
 pub mod SoonLemmas
