@@ -1,25 +1,20 @@
--- Each claim that is written has a line (`claims_of-fit`, `to_come-fit`, `next-fits`).
-use Rattle.std.proofs.Common.{◌≡◌, ◌⊎◌, inl, inr, ℕ, zero, suc, ◌≤◌, Bool, true, false, ◌&&◌, ◌||◌, List, [], ◌∷◌, ◌++◌, take, length, slice_index_or, Option, Some, None, if◌then◌else◌, refl, ap, sym, ◌∙◌, arith}
-use Rattle.std.specs.Prelude.{IfSome, is_none, nat_le}
-use Rattle.std.specs.List.{AllByRecursion, find, flat_map, list_all}
+-- Each claim that is written has a line (`own_fits`), and so have all (`claims_of-fit`); each rule that
+-- is found broken has a name (`break_named`).
+use Rattle.std.proofs.Common.{◌≡◌, ◌⊎◌, inl, inr, ℕ, ◌≤◌, Bool, true, false, ◌&&◌, ◌||◌, List, [], ◌∷◌, take, length, slice_index_or, Option, Some, None, if◌then◌else◌, refl, ap, sym, ◌∙◌, arith}
+use Rattle.std.specs.Prelude.{is_none, nat_le}
+use Rattle.std.specs.List.{AllByRecursion, find, list_all}
 use Rattle.std.specs.Option.{option_map_or}
 use Rattle.std.proofs.lemmas.Bool.{and_parts, and_right, both_ways, cases_Bool}
 use Rattle.std.proofs.lemmas.Bool.Decides.{nat_tests}
 use Rattle.cert_text.specs.Lines.{IsClaim}
-use Rattle.cert_text.specs.declared.claim.Claim.{Claim}
 use Rattle.cert_text.specs.declared.claim.Claim.TheVariants.{Open, Broken, NoChain, Floor, TheScore}
-use Rattle.cert_tree.specs.Trees.{Tree, claims_from}
-use Rattle.cert_tree.specs.Walks.{owed_by_walk}
-use Rattle.cert_tree.specs.Writing.{claims_at, claims_with, steps_left}
-use Rattle.cert_tree.specs.declared.walk.Walk.{Walk}
 use Rattle.cert_law.specs.Cases.{Matter}
 use Rattle.cert_law.specs.Certificates.{tree_of}
 use Rattle.cert_law.specs.Claims.{has_break_of}
-use Rattle.cert_law.specs.Known.{tree_in, ways_of}
 use Rattle.cert_law.specs.Tails.{tail_of, used_floor}
 use Rattle.cert_law.specs.Writer.{claims_of, is_no_better, is_setting_of, least_break, unbroken_claim}
-use Rattle.cert_law.specs.declared.known.PrefixKnown.{PrefixKnown}
-use Rattle.cert_writer.specs.Writing.{by_tables, own_claim, to_come}
+use Rattle.cert_writer.specs.Writing.{own_claim}
+use Rattle.claim_writer.proofs.Fits.{claims-fit}
 use Rattle.fux_grid.specs.declared.cell.Cell.{Cell}
 use Rattle.fux_grid.specs.Exercises.{columns_in, greatest_rule}
 use Rattle.fux_judge.proofs.Ends.{from_none_below}
@@ -27,32 +22,9 @@ use Rattle.fux_judge.proofs.Unmixed.{is_of_mixed, unmixed_unbroken}
 use Rattle.fux_judge.specs.Penalties.{newly_broken}
 use Rattle.fux_judge.specs.Rules.{is_read, rules_read}
 
-all_append : {A : Type 0} (P : A → Type 0) (xs ys : List A) → AllByRecursion P xs → AllByRecursion P ys
-    → AllByRecursion P (xs ++ ys)
-all_append P [] ys p q = q
-all_append P (x ∷ xs) ys p q = (p.0, all_append P xs ys p.1 q)
-
-all_flat : {A B : Type 0} (P : B → Type 0) (f : A → List B) (xs : List A) → ((x : A) → AllByRecursion P (f x))
-    → AllByRecursion P (flat_map f xs)
-all_flat P f [] h = tt
-all_flat P f (x ∷ xs) h = all_append P (f x) (flat_map f xs) (h x) (all_flat P f xs h)
-
--- ---- the claims of a tree
-
-module _ {X : Type 0} (tree : Tree X Claim) (own : X → Claim) (fits : (p : X) → IsClaim (own p)) where
-  claims-fit : (count : ℕ) (p : X) → AllByRecursion IsClaim (claims_from tree own count p)
-  unfolding claims_from
-  claims-fit zero p = (fits p, tt)
-  claims-fit (suc count) p = (fits p, by (tree.is_open (own p)) (claims-fit count))
-    where
-      by : (b : Bool) → ((q : X) → AllByRecursion IsClaim (claims_from tree own count q))
-          → AllByRecursion IsClaim (if b then flat_map (claims_from tree own count) (tree.longer p) else [])
-      by true each = all_flat IsClaim (claims_from tree own count) (tree.longer p) each
-      by false each = tt
-
 -- ---- the claims of a certificate
 
-is_named : ℕ → Bool
+pub is_named : ℕ → Bool
 is_named rule = nat_le 1 rule && nat_le rule greatest_rule
 
 -- a claim names each rule that is read, but for those of mixed exercises
@@ -60,7 +32,7 @@ named_or_mixed : list_all (λ rule. is_named rule || is_of_mixed rule) rules_rea
 unfolding rules_read is_named
 named_or_mixed = refl
 
-named_from_test : (rule : ℕ) → is_named rule ≡ true → (1 ≤ rule) × (rule ≤ greatest_rule)
+pub named_from_test : (rule : ℕ) → is_named rule ≡ true → (1 ≤ rule) × (rule ≤ greatest_rule)
 unfolding is_named
 named_from_test rule h =
     let parts = and_parts (nat_le 1 rule) (nat_le rule greatest_rule) h in
@@ -98,7 +70,7 @@ module _ (t : Matter) (unmixed : t.exercise.mixed ≡ None) where
       (from_none_below (λ k. newly_broken t.exercise (take k p) (slice_index_or p k []) rule) (length p)
       (λ k h. unmixed_unbroken t.exercise unmixed (take k p) (slice_index_or p k []) rule mixed))
 
-  break_named : (p : List (List Cell)) (rule : ℕ) → least_break t.exercise p ≡ Some rule → is_named rule ≡ true
+  pub break_named : (p : List (List Cell)) (rule : ℕ) → least_break t.exercise p ≡ Some rule → is_named rule ≡ true
   break_named p rule e =
       let found = found_passes (has_break_of t.exercise p) (λ r. is_named r || is_of_mixed r) rules_read rule
       named_or_mixed e in
@@ -110,7 +82,7 @@ module _ (t : Matter) (unmixed : t.exercise.mixed ≡ None) where
           (no_mixed_break p rule mixed) broken)
       at false false mixed h broken = h
 
-  own_fits : (p : List (List Cell)) → IsClaim (own_claim t p)
+  pub own_fits : (p : List (List Cell)) → IsClaim (own_claim t p)
   own_fits p = setting (is_setting_of t.head p)
     where
       floor : (b : Bool) → IsClaim (if b then Floor else Open)
@@ -136,15 +108,3 @@ module _ (t : Matter) (unmixed : t.exercise.mixed ≡ None) where
   pub claims_of-fit : AllByRecursion IsClaim (claims_of t.exercise t.sheet t.head)
   claims_of-fit =
       claims-fit (tree_of t.exercise t.sheet t.head None) (own_claim t) own_fits (columns_in t.exercise) []
-
-  pub to_come-fit : (walk : Walk PrefixKnown) → AllByRecursion IsClaim (to_come t walk)
-  to_come-fit walk =
-      let tree = tree_in (by_tables t) in
-      let ways = ways_of t.exercise in
-      all_flat IsClaim (claims_at tree (own_claim t) ways) (owed_by_walk ways walk)
-      (λ p. claims-fit tree (own_claim t) own_fits (steps_left ways p) p)
-
-pub next-fits : (claim : Option Claim) (later : List Claim) → AllByRecursion IsClaim (claims_with claim later)
-    → IfSome claim IsClaim
-next-fits None later all = tt
-next-fits (Some claim) later all = all.0

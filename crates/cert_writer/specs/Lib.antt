@@ -1,4 +1,3 @@
-pub mod Ends
 pub mod Heads
 pub mod Stages
 pub mod Writing

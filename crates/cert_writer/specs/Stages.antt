@@ -6,13 +6,14 @@ use Rattle.cert_law.specs.Cases.{Matter}
 use Rattle.cert_law.specs.Rests.{entries_at, entries_from, entries_of, stated_in}
 use Rattle.cert_law.specs.Writer.{claims_of, stated_text}
 use Rattle.cert_text.specs.declared.answers.Form.{Form}
-use Rattle.cert_text.specs.declared.answers.Form.TheVariants.{First, Second}
+use Rattle.cert_text.specs.declared.answers.Form.TheVariants.{First, Second, Third}
 use Rattle.cert_text.specs.declared.potential.Potential.{Potential}
 use Rattle.cert_text.specs.Potentials.{last_line, potential_line}
 use Rattle.cert_writer.specs.declared.lines.Lines.{Lines}
 use Rattle.cert_writer.specs.declared.lines.Stage.{Stage}
 use Rattle.cert_writer.specs.declared.lines.Stage.TheVariants.{Start, Column, Last, Claims}
-use Rattle.cert_writer.specs.Writing.{IsWriting, claim_lines, to_come}
+use Rattle.cert_writer.specs.Writing.{IsWriting, to_come}
+use Rattle.claim_writer.specs.Writing.{claim_lines}
 use Rattle.fux_grid.specs.declared.exercise.Exercise.{Exercise}
 use Rattle.fux_grid.specs.Exercises.{columns_in}
 use Rattle.fux_grid.specs.Menus.{menu_of}
@@ -28,6 +29,7 @@ IsStage ex Claims = ⊤
 abbrev pub first_stage : Form → Stage
 first_stage First = Claims
 first_stage Second = Start
+first_stage Third = Claims
 
 -- the entries that are still to come
 abbrev pub entries_left : Matter → Stage → List Potential

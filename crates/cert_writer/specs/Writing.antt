@@ -1,6 +1,5 @@
 -- What is still to be written of a certificate's claims.
-use Rattle.std.specs.Prelude.{◌≡◌, ℕ, List, None}
-use Rattle.std.specs.List.{flat_map}
+use Rattle.std.specs.Prelude.{◌≡◌, List, None}
 use Rattle.cert_tree.specs.Walks.{IsWalk}
 use Rattle.cert_tree.specs.Writing.{AreTold, claims_to_come}
 use Rattle.cert_tree.specs.declared.walk.Walk.{Walk}
@@ -11,7 +10,6 @@ use Rattle.cert_law.specs.Known.{IsKnown, Tailed, tree_in, ways_of}
 use Rattle.cert_law.specs.Rests.{HasSmallWeights}
 use Rattle.cert_law.specs.Writer.{first_claim}
 use Rattle.cert_law.specs.declared.known.PrefixKnown.{PrefixKnown}
-use Rattle.cert_text.specs.Lines.{claim_line}
 use Rattle.cert_text.specs.declared.claim.Claim.{Claim}
 use Rattle.floor_tables.specs.Tables.{Task}
 use Rattle.fux_grid.specs.declared.cell.Cell.{Cell}
@@ -44,7 +42,3 @@ to_come t walk = claims_to_come (tree_in (by_tables t)) (own_claim t) (ways_of t
 pub record IsWriting (t : Matter) (walk : Walk PrefixKnown) : Type 0 where
   pub is : IsWalk (tree_in (by_tables t)) (IsKnown (by_tables t)) (ways_of t.exercise) walk
   pub told : AreTold (tree_in (by_tables t)) (own_claim t) (ways_of t.exercise) walk
-
--- the lines of claims
-abbrev pub claim_lines : List Claim → List ℕ
-claim_lines claims = flat_map claim_line claims

@@ -39,6 +39,7 @@ fn first_stage(form: Form) -> Stage
     match form {
         Form::First => Stage::Claims,
         Form::Second => Stage::Start,
+        Form::Third => Stage::Claims,
     }
 }
 

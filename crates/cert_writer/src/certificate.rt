@@ -4,11 +4,12 @@ ghost use Rattle.std.specs.Prelude.{◌≡◌, ◌≢◌, ◌<◌, ◌≤◌, Er
 ghost use Rattle.std.specs.List.{AllByRecursion};
 ghost use Rattle.cert_law.specs.Rests.{entries_of};
 ghost use Rattle.cert_law.specs.Writer.{written_certificate};
+ghost use Rattle.cert_text.specs.HeadRows.{IsUpTo};
 ghost use Rattle.cert_text.specs.Potentials.{IsPotential};
-ghost use Rattle.cert_writer.specs.Ends.{EndsUnwritten, FailsShort};
 ghost use Rattle.cert_law.specs.Certificates.{Holds};
 ghost use Rattle.cert_writer.specs.Heads.{found_text, head_with};
 ghost use Rattle.cert_writer.specs.Writing.{IsTask};
+ghost use Rattle.claim_writer.specs.Ends.{EndsUnwritten, FailsShort};
 ghost use Rattle.fux_port.specs.Counts.{Rose};
 ghost use Rattle.fux_port.specs.Written.{appended};
 
@@ -80,9 +81,9 @@ pub(crate) fn write_for_head<K: Sink>(
     }
 }
 
-/// Writes the certificate of a form, of the best setting with its penalty, or the one that says
-/// that no setting is lawful, by the tables that the space has. The exercise isn't mixed: claims
-/// don't name the rules of mixed ones. Its length is counted before its first byte is written, and
+/// Writes the certificate of a form that states numbers or nothing, of the best setting with its
+/// penalty, or the one that says that no setting is lawful, by the tables that the space has. The
+/// exercise isn't mixed: claims don't name the rules of mixed ones. Its length is counted before its first byte is written, and
 /// all memory is taken before that; then each prefix is judged once more, and each entry read from
 /// the tables again, so that a certificate of any length takes no more memory than a short one.
 pub fn certify_form<K: Sink>(
@@ -92,6 +93,7 @@ pub fn certify_form<K: Sink>(
     form: Form,
     sink: &mut K,
 ) -> Result<(), CertWrite>
+    requires numbers { IsUpTo Form.Second form }
     requires unmixed { space.now.exercise.mixed ≡ None }
     requires holds { Holds space.now.exercise space.now.sheet (head_with best) }
     ensures ok { OnOk result (K.written sink.new ≡ appended (K.written sink.old)

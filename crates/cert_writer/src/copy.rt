@@ -24,7 +24,7 @@ fn copy_of(alloc: Global, score: &Score) -> Result<Score, Memory>
 }
 
 /// The head that says that a setting is the best one, or that none is lawful.
-pub(crate) fn head_of(alloc: Global, best: Option<(&Score, u64)>) -> Result<CertHead, Memory>
+pub fn head_of(alloc: Global, best: Option<(&Score, u64)>) -> Result<CertHead, Memory>
     ensures { IfOk result (λ head. head ≡ head_with best.entry) }
 {
     match best {

@@ -58,21 +58,23 @@ fn opening(form: Form) -> &'static str
     match form {
         Form::First => "fux-cert 1\n",
         Form::Second => "fux-cert 2\n",
+        Form::Third => "fux-cert 3\n",
     }
 }
 
-/// The last line of a form's head.
+/// The last line of a form's head; behind one of the third form stand lists.
 fn closing(form: Form) -> &'static str
     ensures { result.now ≡ closing_text form }
 {
     match form {
         Form::First => "claims\n",
         Form::Second => "potentials\n",
+        Form::Third => "",
     }
 }
 
 /// The text of a head of a form.
-pub(crate) fn head_text(
+pub fn head_text(
     alloc: Global,
     ex: &Exercise,
     sheet: &Sheet,

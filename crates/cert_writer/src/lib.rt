@@ -13,3 +13,5 @@ mod next;
 mod write;
 
 pub use certificate::certify_form;
+pub use copy::head_of;
+pub use head::head_text;

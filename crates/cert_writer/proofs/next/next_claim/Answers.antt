@@ -5,8 +5,9 @@ use Rattle.cert_law.specs.Known.{IsKnown, Tailed, tree_in, ways_of}
 use Rattle.cert_text.specs.Lines.{IsClaim}
 use Rattle.cert_tree.specs.Walks.{IsWalk}
 use Rattle.cert_tree.specs.Writing.{AreTold, claims_to_come, claims_with}
-use Rattle.cert_writer.specs.Writing.{own_in, to_come}
-use Rattle.cert_writer.proofs.Fits.{next-fits, to_come-fit}
+use Rattle.cert_writer.specs.Writing.{by_tables, own_claim, own_in, to_come}
+use Rattle.cert_writer.proofs.Fits.{own_fits}
+use Rattle.claim_writer.proofs.Fits.{next-fits, to_come-fit}
 use Rattle.cert_writer.proofs.next.next_claim.Goals as goal
 
 pub next_claim-requires-clause-walk : goal.next_claim-requires-clause-walk
@@ -48,4 +49,6 @@ returns-clause-claim c =
     c.new.ensures c.next_claim.ensures.claims
     in
     next-fits c.next_claim.result (to_come t c.next_claim.new.walk)
-    (subst (AllByRecursion IsClaim) claims (to_come-fit t c.requires.task.unmixed c.args.walk.now))
+    (subst (AllByRecursion IsClaim) claims
+    (to_come-fit (tree_in (by_tables t)) (own_claim t) (own_fits t c.requires.task.unmixed) (ways_of t.exercise)
+    c.args.walk.now))
