@@ -1,1 +1,4 @@
+pub mod Lent
+pub mod Sizes
 pub mod Written
+pub mod WrittenLines

@@ -1,13 +1,12 @@
-//! The writer of certificates of the third form: that the claims which are written by lists of prices
-//! are those of a valid one.
+//! The writer of certificates of the third form: lists of prices, and claims behind them by what
+//! they state. It searches nothing: it takes what a search of a space has found.
 #![tactic(auto)]
 
-ghost use Rattle.price_writer.specs.Laws.{FirstClaimsAreTrue, WrittenIsValid};
+mod answers;
+mod certificate;
+mod law;
+mod prices;
 
-/// A law, and nothing to run: for a head that holds the first claim of each prefix that is owed is
-/// true by whatever lists, so that claims can always be written; and where what the lists charge is
-/// due, they are those of a valid certificate.
-pub fn written_by_prices()
-    ensures told { FirstClaimsAreTrue }
-    ensures valid { WrittenIsValid }
-{}
+pub use answers::PricesWrite;
+pub use law::written_by_prices;
+pub use prices::certify_prices;

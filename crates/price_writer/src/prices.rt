@@ -1,0 +1,116 @@
+//! Writing a whole certificate of the third form.
+
+ghost use Rattle.std.specs.Prelude.{◌≡◌, ◌≤◌, Err, None, OnOk, map};
+ghost use Rattle.cert_law.specs.Certificates.{Holds};
+ghost use Rattle.cert_law.specs.Writer as words;
+ghost use Rattle.cert_writer.specs.Heads.{head_with};
+ghost use Rattle.fux_port.specs.Promises.{Fails};
+ghost use Rattle.list_writer.specs.Stating.{FitBehind};
+ghost use Rattle.price_text.specs.PriceLines.{line_of};
+ghost use Rattle.price_writer.specs.Certificates.{EndsUnwritten, IsCut, IsOverlong, IsWhole, OfPriced};
+
+use crate::answers::PricesWrite;
+use crate::certificate::write_priced;
+use cert_law::{Case, weights_are_small};
+use cert_text::{CertHead, Form};
+use cert_writer::{head_of, head_text};
+use fux_grid::Score;
+use fux_port::Sink;
+use list_writer::{lines_within, text_behind};
+use price_check::{SharpCase, list_floors, list_numbers, priced_lists, webs_of};
+use price_lists::{lists_are_fit, lists_stated};
+use price_rounds::tuned_prices;
+use price_text::PriceLine;
+use species_space::SpeciesSpace;
+use std::alloc::Global;
+use std::thread::Threads;
+
+/// Writes the certificate of a head that holds, by the lists that lines state, behind the text of
+/// that head.
+fn write_by_lines<K: Sink>(
+    alloc: Global,
+    space: &SpeciesSpace<'_>,
+    head: &CertHead,
+    front: &str,
+    lines: &[PriceLine],
+    sink: &mut K,
+) -> Result<(), PricesWrite>
+    requires unmixed { space.now.exercise.mixed ≡ None }
+    requires holds { Holds space.now.exercise space.now.sheet head.now }
+    requires front { front.now ≡ words.head_text space.now.exercise Form.Third head.now }
+    requires fit { FitBehind space.now.exercise space.now.sheet front.now (map line_of lines.now) }
+    ensures ok { OnOk result (OfPriced space.now.exercise space.now.sheet head.now
+        (IsWhole (K.written sink.old) (K.written sink.new))) }
+    ensures cut { result ≡ Err PricesWrite.WriteFault → OfPriced space.now.exercise
+        space.now.sheet head.now (IsCut (Fails K.faults K.serves sink.old sink.new)
+        (K.written sink.old) (K.written sink.new)) }
+    ensures too_long { result ≡ Err PricesWrite.TooLong → OfPriced space.now.exercise
+        space.now.sheet head.now IsOverlong }
+    ensures unwritten { EndsUnwritten result → K.written sink.new ≡ K.written sink.old }
+    ensures faults { K.faults sink.old ≤ K.faults sink.new }
+{
+    let exercise = space.exercise();
+    let sheet = space.sheet();
+    weights_are_small(sheet);
+    lists_are_fit();
+    let text = text_behind(alloc, front, lines)?;
+    let own = lists_stated(alloc, sheet, lines)?;
+    let priced = priced_lists(alloc, space, &own)?;
+    let webs = webs_of(alloc, &priced)?;
+    let numbers = list_numbers(alloc, &priced, &webs)?;
+    let floors = list_floors(alloc, &priced, &webs, &numbers)?;
+    let case = Case {
+        exercise,
+        sheet,
+        head,
+    };
+    let case = SharpCase::new(case, space.tables(), lines, &floors);
+    write_priced(alloc, &case, text.as_str(), sink)
+}
+
+/// Writes the certificate of the third form, of the best setting with its penalty, or the one that
+/// says that no setting is lawful. Its lists are sought within a budget, as `best` seeks its
+/// prices: which they are isn't promised. The exercise isn't mixed: claims don't name the rules of
+/// mixed ones. Its length is counted before its first byte is written, and all memory is taken
+/// before that.
+pub fn certify_prices<K: Sink, R: Threads + Sync>(
+    rt: &R,
+    alloc: Global,
+    space: &SpeciesSpace<'_>,
+    best: Option<(&Score, u64)>,
+    budget: u32,
+    sink: &mut K,
+) -> Result<(), PricesWrite>
+    requires unmixed { space.now.exercise.mixed ≡ None }
+    requires holds { Holds space.now.exercise space.now.sheet (head_with best) }
+
+    // What is written is a valid certificate.
+    ensures ok { OnOk result (OfPriced space.now.exercise space.now.sheet (head_with best.entry)
+        (IsWhole (K.written sink.old) (K.written sink.new))) }
+
+    // A fault of writing is the sink's, which didn't promise to take that certificate, and less
+    // than it was written.
+    ensures cut { result ≡ Err PricesWrite.WriteFault → OfPriced space.now.exercise
+        space.now.sheet (head_with best.entry) (IsCut (Fails K.faults K.serves sink.old sink.new)
+        (K.written sink.old) (K.written sink.new)) }
+
+    // Nothing is written of a certificate that is too long, nor where a web is too large or there
+    // is not enough memory.
+    ensures too_long { result ≡ Err PricesWrite.TooLong → OfPriced space.now.exercise
+        space.now.sheet (head_with best.entry) IsOverlong }
+    ensures unwritten { EndsUnwritten result → K.written sink.new ≡ K.written sink.old }
+    ensures faults { K.faults sink.old ≤ K.faults sink.new }
+{
+    let _ = rt;
+    let exercise = space.exercise();
+    let sheet = space.sheet();
+    let head = head_of(alloc, best)?;
+    let front = head_text(alloc, exercise, sheet, Form::Third, &head)?;
+    let Some(tuned) = tuned_prices(alloc, space, budget)? else {
+        return Err(PricesWrite::TooLarge);
+    };
+    let Some(lines) = lines_within(alloc, exercise, sheet, &tuned, front.as_str())? else {
+        return Err(PricesWrite::TooLarge);
+    };
+    write_by_lines(alloc, space, &head, front.as_str(), &lines, sink)
+}
