@@ -9,15 +9,16 @@ use Rattle.cert_file.specs.declared.fault.ReadFault.TheVariants.{Text, Unreadabl
 use Rattle.cert_file.specs.declared.fault.ReadFault.{ReadFault}
 use Rattle.cert_file.specs.Readings.{Files, MayBe, Piece, reading_from}
 use Rattle.cert_file.proofs.PieceLemmas.{nothing_begins}
-use Rattle.cert_check.specs.Settings.{Asked, IsOpeningText, IsVerdictOn, Opening, RefusesFront, setting_subject}
+use Rattle.cert_check.specs.Settings.{Asked, HasPricedHead, IsListed, IsOpeningText, IsVerdictOn, Numbers, Opening, RefusesFront, setting_subject}
 use Rattle.cert_check.specs.Starts.{IsStarted, Starts}
 use Rattle.cert_file.specs.Subjects.{IsOpened}
 use Rattle.cert_text.specs.declared.answers.CertFault.TheVariants.{CertHead as WrongHead, CertWord, CertEnd, Memory}
 use Rattle.cert_text.specs.declared.answers.CertHead.{CertHead}
 use Rattle.cert_text.specs.declared.answers.Form.{Form}
-use Rattle.cert_text.specs.declared.answers.Form.TheVariants.{First}
+use Rattle.cert_text.specs.declared.answers.Form.TheVariants.{First, Second, Third}
 use Rattle.cert_text.specs.declared.answers.Refused.{Refused}
-use Rattle.cert_check.specs.Answers.{Answers, unopened, unstarted}
+use Rattle.cert_text.specs.HeadRows.{IsUpTo}
+use Rattle.cert_check.specs.Answers.{Answers, TellsNoWidth, unopened, unstarted}
 use Rattle.cert_check.specs.declared.checking.CheckFault.{CheckFault}
 use Rattle.fux_port.specs.Files.{IsMissing}
 use Rattle.cert_file.specs.Judgments.{Finds, Shows}
@@ -38,15 +39,21 @@ module _ (ex : Exercise) (sheet : Sheet) (files : Files) (name : List ℕ) (rose
       → Answers ex sheet files name rose (unstarted fault)
   starts_answer Unreadable starts = starts
   starts_answer (Text (WrongHead at)) starts =
-      record { bytes = starts.bytes; had = starts.had; such = inl starts.such }
+      record { bytes = starts.bytes; had = starts.had; such = inl (inl starts.such) }
   starts_answer (Text (CertWord at)) starts = absurd starts
   starts_answer (Text (CertEnd at)) starts = absurd starts
   starts_answer (Text Memory) starts = tt
 
-  unsound_answer : (form : Form) (head : CertHead) (piece : Piece) (refused : Refused)
+  -- behind a head of the first or the second form no lists are owed
+  none_listed : (form : Form) (head : CertHead) (bytes : List ℕ) → IsUpTo Second form → IsListed ex form head bytes
+  none_listed First head bytes early = tt
+  none_listed Second head bytes early = tt
+  none_listed Third head bytes early = absurd early
+
+  unsound_answer : (form : Form) (head : CertHead) (piece : Piece) (refused : Refused) → IsUpTo Second form
       → IsStarted ex files name form head piece
       → TellsWhy ex sheet head (opening.Refused refused) → Answers ex sheet files name rose (Ok (verdict.Claim refused))
-  unsound_answer form head piece refused started why = record {
+  unsound_answer form head piece refused early started why = record {
     bytes = started.at.begins.bytes;
     had = started.at.begins.had;
     such = inl (
@@ -57,18 +64,19 @@ module _ (ex : Exercise) (sheet : Sheet) (files : Files) (name : List ℕ) (rose
         front = started.front;
         begins = begins_front started.at.begins.bytes started.front _ started.at.begins.such;
         heads = started.heads;
+        listed = none_listed form head started.at.begins.bytes early;
         unsound = why.1;
       },
     );
   }
 
-  pub opening_answer : (form : Form) (head : CertHead) (piece : Piece) (fault : OpenFault)
+  pub opening_answer : (form : Form) (head : CertHead) (piece : Piece) (fault : OpenFault) → IsUpTo Second form
       → IsStarted ex files name form head piece
       → TellsWhy ex sheet head fault → Answers ex sheet files name rose (unopened fault)
-  opening_answer form head piece (opening.TooWide place count) started why = why
-  opening_answer form head piece (opening.Refused refused) started why =
-      unsound_answer form head piece refused started why
-  opening_answer form head piece opening.Memory started why = tt
+  opening_answer form head piece (opening.TooWide place count) early started why = why
+  opening_answer form head piece (opening.Refused refused) early started why =
+      unsound_answer form head piece refused early started why
+  opening_answer form head piece opening.Memory early started why = tt
 
   -- the same, where the files are those of before, and a count of faults that rose since rose from
   -- before
@@ -81,15 +89,18 @@ module _ (ex : Exercise) (sheet : Sheet) (files : Files) (name : List ℕ) (rose
   answers_moved earlier first (Err check.Unreadable) same so (inr missing) =
       inr (subst (λ fs. IsMissing fs name) same missing)
   answers_moved earlier first (Err (check.TooWide place count)) same so made = made
+  answers_moved earlier first (Err check.TooLarge) same so made =
+      subst (λ fs. MayBe fs name (HasPricedHead ex)) same made
   answers_moved earlier first (Err check.Memory) same so made = tt
 
   -- no menu is told to be too wide where none is
   pub narrow_answer : (result : Result Verdict CheckFault) → Answers ex sheet files name rose result → AreNarrow ex
-      → IfErr result (λ f. (f ≡ check.Unreadable) ⊎ (f ≡ check.Memory))
+      → IfErr result TellsNoWidth
   narrow_answer (Ok it) made narrow = tt
-  narrow_answer (Err check.Unreadable) made narrow = inl refl
-  narrow_answer (Err (check.TooWide place count)) made narrow = absurd (not_too_wide ex place count narrow made)
-  narrow_answer (Err check.Memory) made narrow = inr refl
+  narrow_answer (Err check.Unreadable) made narrow = tt
+  narrow_answer (Err (check.TooWide place count)) made narrow = not_too_wide ex place count narrow made
+  narrow_answer (Err check.TooLarge) made narrow = tt
+  narrow_answer (Err check.Memory) made narrow = tt
 
 -- ---- which answers come where no menu is too wide, and where one is
 
@@ -109,11 +120,17 @@ unopened_narrow ex sheet head opening.Memory why = tt
 -- behind a head of the first form a reader of claims stands
 pub first_opened : (ex : Exercise) (files : Files) (name : List ℕ) (head : CertHead) (piece : Piece)
     → IsStarted ex files name First head piece
-    → IsOpened (IsOpeningText ex) files name (record { head = head; stated = None })
+    → IsOpened (IsOpeningText ex) files name (record { head = head; stated = Numbers None })
     (reading_from (piece.offset - length piece.ahead) piece.ahead piece.offset)
 first_opened ex files name head piece started = record {
   front = started.front;
-  heads = record { front = started.front; heads = started.heads; fits = tt; is = sym (append-nil started.front) };
+  heads = record {
+    front = started.front;
+    heads = started.heads;
+    fits = tt;
+    is = sym (append-nil started.front);
+    short = tt;
+  };
   at = record {
     begins = started.at.begins;
     next = omega (arith, started.at.offset);

@@ -19,7 +19,7 @@ use Rattle.cert_law.specs.WayLaws.{ExcludesRefuting, RefutesExcluded}
 use Rattle.cert_law.specs.declared.known.PrefixKnown.{PrefixKnown}
 use Rattle.cert_law.proofs.TailFacts.{tails_hold}
 use Rattle.cert_law.proofs.Valid.{excludes_refuting, unrefuted_holds}
-use Rattle.cert_check.specs.Settings.{Asked, IsSound, Opening, setting_subject}
+use Rattle.cert_check.specs.Settings.{Asked, IsSound, Numbers, Opening, setting_subject}
 use Rattle.fux_grid.specs.declared.cell.Cell.{Cell}
 
 -- true claims exclude what refutes a sound head, by tails that hold
@@ -47,12 +47,12 @@ abbrev pub asked_of : Tailed → Asked
 asked_of t = record { exercise = t.case.exercise; sheet = t.case.sheet }
 
 abbrev pub opening_of : Tailed → Opening
-opening_of t = record { head = t.case.head; stated = t.stated }
+opening_of t = record { head = t.case.head; stated = Numbers t.stated }
 
 -- it is sound
 pub opening_sound : (t : Tailed) → IsCase t.case → IfSome t.stated (AreTrueEntries t.case.exercise t.case.sheet)
     → IsSound t.case.exercise t.case.sheet (opening_of t)
-opening_sound t case entries = record { head = case.sound; entries = entries }
+opening_sound t case entries = record { head = case.sound; stated = entries }
 
 module _ (tailed : Tailed) where
   abbrev asked : Asked

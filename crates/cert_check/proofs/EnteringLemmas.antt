@@ -7,7 +7,7 @@ use Rattle.std.proofs.lemmas.List.{flat_map_more}
 use Rattle.std.specs.List.{AllByRecursion, flat_map}
 use Rattle.cert_check.specs.Answers.{Answers, unstarted}
 use Rattle.cert_check.specs.Entering.{Enters, HasStated, unclosed}
-use Rattle.cert_check.specs.Settings.{HasStatedFault, IsOpeningText, RefusesFront}
+use Rattle.cert_check.specs.Settings.{HasStatedFault, IsOpeningText, Numbers, RefusesFront}
 use Rattle.cert_check.specs.Starts.{IsEntered, IsStarted, IsStatedWhole}
 use Rattle.cert_file.specs.Subjects.{IsOpened}
 use Rattle.cert_check.specs.Stating.{Stating, TellsFalse, stating_for}
@@ -113,6 +113,7 @@ module _ (ex : Exercise) (files : Files) (name : List ℕ) (head : CertHead) whe
         heads = on.heads;
         fits = (full owes, on.fits);
         is = append_assoc on.front lines last_line;
+        short = tt;
       };
       at = at;
     }
@@ -136,7 +137,7 @@ module _ (ex : Exercise) (files : Files) (name : List ℕ) (head : CertHead) whe
 
   pub claims_opened : (entries : List Potential) (reader : StatedReading)
       → IsStatedWhole ex files name head entries reader
-      → IsOpened (IsOpeningText ex) files name (record { head = head; stated = Some entries })
+      → IsOpened (IsOpeningText ex) files name (record { head = head; stated = Numbers (Some entries) })
       (reading_from (reader.offset - length reader.ahead) reader.ahead reader.offset)
   claims_opened entries reader is = record {
     front = is.opening;

@@ -3,7 +3,10 @@ pub mod CellTests
 pub mod CheckerLemmas
 pub mod EnteringLemmas
 pub mod HeadLemmas
+pub mod PricedLemmas
 pub mod RefusedLemmas
+pub mod SharpChecks
 pub mod StartLemmas
 pub mod ToldEntries
+pub mod ToldLists
 pub mod NearLemmas

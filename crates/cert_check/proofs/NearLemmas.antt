@@ -4,7 +4,7 @@ use Rattle.std.proofs.Common.{◌≡◌, ℕ, ◌+◌, ◌≤◌, inr, List, [],
 use Rattle.std.specs.Prelude.{IfOk}
 use Rattle.cert_check.specs.Answers.{unstarted}
 use Rattle.cert_check.specs.Entering.{Enters, unclosed}
-use Rattle.cert_check.specs.Settings.{Asked, Opening, setting_subject}
+use Rattle.cert_check.specs.Settings.{Asked, Numbers, Opening, setting_subject}
 use Rattle.cert_check.specs.Starts.{IsStatedWhole}
 use Rattle.cert_check.specs.Stating.{Stating, TellsFalse, stating_for}
 use Rattle.cert_check.specs.declared.stated.CloseFault.{CloseFault}
@@ -55,7 +55,7 @@ module _ (asked : Asked) (files : Files) (name : List ℕ) (before past : ℕ) w
   )
     where
       opening : Opening
-      opening = record { head = head; stated = Some entries }
+      opening = record { head = head; stated = Numbers (Some entries) }
 
       there : IsReadToClaim (setting_subject asked) opening 0 reader.offset is.at.begins.bytes
       there = record {

@@ -1,7 +1,7 @@
 -- At most one opening stands at the front of bytes (`openings-alone`), and bytes are refused before
 -- any claim in one way, if they are (`settings_once`). So bytes have one verdict (`one_verdict`),
 -- and the text of a valid certificate is accepted (`accepted_answer`).
-use Rattle.std.proofs.Common.{◌≡◌, ℕ, ◌+◌, ◌<◌, ◌≤◌, Bool, true, false, nat_lt, List, [], ◌++◌, Option, None, Some, Result, Ok, Err, length, take, drop, inl, inr, refl, sym, ap, subst, ◌∙◌, arith, append_assoc, append-nil, length-append}
+use Rattle.std.proofs.Common.{◌≡◌, ℕ, ◌+◌, ◌<◌, ◌≤◌, ◌⊎◌, Bool, true, false, nat_lt, List, [], ◌++◌, Option, None, Some, Result, Ok, Err, length, take, drop, inl, inr, refl, sym, ap, subst, ◌∙◌, arith, append_assoc, append-nil, length-append}
 use Rattle.std.specs.Prelude.{IfOk, IfSome, if◌then◌else◌}
 use Rattle.std.proofs.lemmas.Bool.Decides.{nat_tests}
 use Rattle.std.proofs.lemmas.List.{append_cancel_left, take_all, take-append-drop}
@@ -9,9 +9,10 @@ use Rattle.std.proofs.Math.Seq.{take-append_seam}
 use Rattle.std.specs.List.{flat_map}
 use Rattle.std.specs.Io.{StartsWith}
 use Rattle.cert_check.specs.Answers.{Answers}
-use Rattle.cert_check.specs.Settings.{AcceptsValid, AreStated, HasStatedFault, HasUntrue, IsOpeningOf, IsOpeningText, IsUnsound, IsVerdictOn, Opening, Refuses, RefusesFront, form_of, setting_subject}
+use Rattle.cert_check.specs.Settings.{AcceptsValid, AreStated, AreTrueStated, Ground, HasStatedFault, HasUntrue, IsBrief, IsListed, IsOpeningOf, IsOpeningText, IsUnsound, IsVerdictOn, Lists, ListsStop, Numbers, Opening, Refuses, RefusesFront, form_of, ground_text, setting_subject}
 use Rattle.cert_check.specs.declared.checking.CheckFault.{CheckFault}
 use Rattle.cert_check.proofs.StartLemmas.{at_front}
+use Rattle.cert_check.proofs.ToldLists.{IsPriced, front_of, of_due, of_high, of_stop, of_unsound, one_priced, same_lists, short_lists, stands_priced}
 use Rattle.cert_check.proofs.ToldEntries.{Ends, IsStatedTold, Last, NotEnded, NotOwed, one_stated}
 use Rattle.cert_file.specs.Readings.{Files, judged_bytes, longest_certificate}
 use Rattle.cert_file.specs.declared.verdict.Verdict.{Verdict}
@@ -22,15 +23,15 @@ use Rattle.cert_file.proofs.OneVerdict.{IsRefusedOnce}
 use Rattle.cert_file.proofs.StatedTexts.{same_entries}
 use Rattle.cert_law.specs.Certificates.{IsHeadSound}
 use Rattle.cert_law.specs.Entries.{AreTrueEntries, entry_count}
-use Rattle.cert_law.specs.Writer.{stated_text}
 use Rattle.cert_text.specs.declared.answers.CertFault.{CertFault}
 use Rattle.cert_text.specs.declared.answers.CertFault.TheVariants.{CertHead as WrongHead, CertWord, CertEnd, Memory}
 use Rattle.cert_text.specs.declared.answers.CertHead.{CertHead}
 use Rattle.cert_text.specs.declared.answers.Form.{Form}
-use Rattle.cert_text.specs.declared.answers.Form.TheVariants.{First, Second}
+use Rattle.cert_text.specs.declared.answers.Form.TheVariants.{First, Second, Third}
 use Rattle.cert_text.specs.declared.answers.Why.{Why}
-use Rattle.cert_text.specs.declared.answers.Why.TheVariants.{Head, False, Over, Short, Potential}
+use Rattle.cert_text.specs.declared.answers.Why.TheVariants.{Head, False, Over, Short, Potential, Price}
 use Rattle.cert_text.specs.declared.potential.Potential.{Potential as Entry}
+use Rattle.cert_text.specs.HeadRows.{IsUpTo}
 use Rattle.cert_text.specs.HeadTexts.{Heads, TextStops, penalty_of}
 use Rattle.cert_text.specs.Potentials.{last_line, potential_line}
 use Rattle.cert_text.proofs.HeadBacks.{heads_are_one}
@@ -38,54 +39,67 @@ use Rattle.cert_text.proofs.PieceLemmas.{Alone}
 use Rattle.fux_grid.specs.declared.exercise.Exercise.{Exercise}
 use Rattle.fux_grid.specs.Exercises.{IsValid}
 use Rattle.penalty_sheet.specs.declared.sheet.Sheet.{Sheet}
-
--- what stands at the front of bytes, by its length
-front_of : (bytes xs ys : List ℕ) → bytes ≡ xs ++ ys → take (length xs) bytes ≡ xs
-front_of bytes xs ys are = ap (λ zs. take (length xs) zs) are ∙ take-append_seam xs ys
+use Rattle.price_text.specs.Lists.{lists_text, most_lines}
 
 -- ---- one opening stands at the front of bytes
 
 module _ (ex : Exercise) where
+  -- the text of lists is one that may be read
+  abbrev IsReadable : Ground → Type 0
+  IsReadable (Numbers stated) = Unit {0}
+  IsReadable (Lists lines) = length (lists_text lines) ≤ most_lines
+
+  readable : (ground : Ground) (front bytes : List ℕ) → bytes ≡ front ++ ground_text ground → IsBrief ground bytes
+      → IsReadable ground
+  readable (Numbers stated) front bytes is short = tt
+  readable (Lists lines) front bytes is short = short_lists lines front bytes is short
+
   -- what is stated reads one way only
-  same_stated : (a b : Option (List Entry)) (xs ys : List ℕ) → form_of a ≡ form_of b → AreStated ex a → AreStated ex b
-      → stated_text a ++ xs ≡ stated_text b ++ ys → a ≡ b
-  same_stated None None xs ys forms f g e = refl
-  same_stated None (Some fs) xs ys forms f g e = cc
-  same_stated (Some es) None xs ys forms f g e = cc
-  same_stated (Some es) (Some fs) xs ys forms f g e =
-      ap Some
+  same_stated : (a b : Ground) (xs ys : List ℕ) → ex.voices ≤ 4 → IsReadable a → IsReadable b → form_of a ≡ form_of b
+      → AreStated ex a → AreStated ex b → ground_text a ++ xs ≡ ground_text b ++ ys → a ≡ b
+  same_stated (Numbers None) (Numbers None) xs ys few r t forms f g e = refl
+  same_stated (Numbers None) (Numbers (Some fs)) xs ys few r t forms f g e = cc
+  same_stated (Numbers None) (Lists ms) xs ys few r t forms f g e = cc
+  same_stated (Numbers (Some es)) (Numbers None) xs ys few r t forms f g e = cc
+  same_stated (Numbers (Some es)) (Numbers (Some fs)) xs ys few r t forms f g e =
+      ap (λ zs. Numbers (Some zs))
       (same_entries (entry_count ex) 0 es fs (last_line ++ xs) (last_line ++ ys) f.1 g.1 (omega (arith, f.0)) (omega (arith, g.0))
       (λ less. absurd (omega (arith, f.0, less))) (λ less. absurd (omega (arith, g.0, less)))
       (sym (append_assoc (flat_map potential_line es) last_line xs) ∙ e
       ∙ append_assoc (flat_map potential_line fs) last_line ys)).0
+  same_stated (Numbers (Some es)) (Lists ms) xs ys few r t forms f g e = cc
+  same_stated (Lists ls) (Numbers None) xs ys few r t forms f g e = cc
+  same_stated (Lists ls) (Numbers (Some fs)) xs ys few r t forms f g e = cc
+  same_stated (Lists ls) (Lists ms) xs ys few r t forms f g e = ap Lists (same_lists ex ls ms xs ys few f g r t e)
 
   module _ (valid : IsValid ex) (x y : Opening) (f g a b : List ℕ) (p : IsOpeningText ex x f) (q : IsOpeningText ex y g)
       (e : f ++ a ≡ g ++ b) where
-    first : f ++ a ≡ p.front ++ (stated_text x.stated ++ a)
-    first = ap (λ zs. zs ++ a) p.is ∙ append_assoc p.front (stated_text x.stated) a
+    first : f ++ a ≡ p.front ++ (ground_text x.stated ++ a)
+    first = ap (λ zs. zs ++ a) p.is ∙ append_assoc p.front (ground_text x.stated) a
 
-    second : f ++ a ≡ q.front ++ (stated_text y.stated ++ b)
-    second = e ∙ ap (λ zs. zs ++ b) q.is ∙ append_assoc q.front (stated_text y.stated) b
+    second : f ++ a ≡ q.front ++ (ground_text y.stated ++ b)
+    second = e ∙ ap (λ zs. zs ++ b) q.is ∙ append_assoc q.front (ground_text y.stated) b
 
     heads : (form_of x.stated ≡ form_of y.stated) × (x.head ≡ y.head) × (length p.front ≡ length q.front)
     heads = heads_are_one ex (f ++ a) (form_of x.stated) (form_of y.stated) x.head y.head (length p.front) (length q.front) valid
-        (at_front ex (form_of x.stated) x.head (f ++ a) p.front (stated_text x.stated ++ a) first p.heads)
-        (at_front ex (form_of y.stated) y.head (f ++ a) q.front (stated_text y.stated ++ b) second q.heads)
+        (at_front ex (form_of x.stated) x.head (f ++ a) p.front (ground_text x.stated ++ a) first p.heads)
+        (at_front ex (form_of y.stated) y.head (f ++ a) q.front (ground_text y.stated ++ b) second q.heads)
 
     fronts : p.front ≡ q.front
-    fronts = sym (front_of (f ++ a) p.front (stated_text x.stated ++ a) first) ∙ ap (λ n. take n (f ++ a)) heads.2
-        ∙ front_of (f ++ a) q.front (stated_text y.stated ++ b) second
+    fronts = sym (front_of (f ++ a) p.front (ground_text x.stated ++ a) first) ∙ ap (λ n. take n (f ++ a)) heads.2
+        ∙ front_of (f ++ a) q.front (ground_text y.stated ++ b) second
 
     stated : x.stated ≡ y.stated
-    stated = same_stated x.stated y.stated a b heads.0 p.fits q.fits
-        (append_cancel_left p.front (stated_text x.stated ++ a) (stated_text y.stated ++ b)
-        (sym first ∙ second ∙ ap (λ zs. zs ++ (stated_text y.stated ++ b)) (sym fronts)))
+    stated = same_stated x.stated y.stated a b valid.most_voices (readable x.stated p.front f p.is p.short)
+        (readable y.stated q.front g q.is q.short) heads.0 p.fits q.fits
+        (append_cancel_left p.front (ground_text x.stated ++ a) (ground_text y.stated ++ b)
+        (sym first ∙ second ∙ ap (λ zs. zs ++ (ground_text y.stated ++ b)) (sym fronts)))
 
     same_opening : (x ≡ y) × (f ≡ g)
     same_opening = (
       ap (λ (h : CertHead). record { head = h; stated = x.stated }) heads.1
-          ∙ ap (λ (o : Option (List Entry)). record { head = y.head; stated = o }) stated,
-      p.is ∙ ap (λ zs. zs ++ stated_text x.stated) fronts ∙ ap (λ (o : Option (List Entry)). q.front ++ stated_text o) stated
+          ∙ ap (λ (o : Ground). record { head = y.head; stated = o }) stated,
+      p.is ∙ ap (λ zs. zs ++ ground_text x.stated) fronts ∙ ap (λ (o : Ground). q.front ++ ground_text o) stated
           ∙ sym q.is,
     )
 
@@ -104,10 +118,12 @@ some_not_none : (a : Verdict) → Some a ≡ None → ⊥
 some_not_none a e = cc
 
 module _ (ex : Exercise) (sheet : Sheet) (bytes : List ℕ) where
-  -- what is refused behind a head of a form, whose text ends at a place, if anything is
+  -- what is refused behind a head of the first or the second form, whose text ends at a place, if
+  -- anything is
   abbrev IsToldBehind : Form → ℕ → List ℕ → Option Verdict → Type 0
   IsToldBehind First place rest it = it ≡ None
   IsToldBehind Second place rest it = IsStatedTold ex sheet (goes_beyond bytes) place rest it
+  IsToldBehind Third place rest it = ⊥
 
   record IsJudged (it : Option Verdict) (head : CertHead) : Type 0 where
     pub sound : IsHeadSound ex sheet head
@@ -132,7 +148,7 @@ module _ (ex : Exercise) (sheet : Sheet) (bytes : List ℕ) where
   module _ (head : CertHead) where
     -- behind a sound head and true entries, if some are stated, nothing is refused
     from_opening : (stated : Option (List Entry)) (opening rest : List ℕ) → IsHeadSound ex sheet head
-        → IfSome stated (AreTrueEntries ex sheet) → IsOpeningOf ex head stated opening
+        → IfSome stated (AreTrueEntries ex sheet) → IsOpeningOf ex head (Numbers stated) opening
         → judged_bytes bytes ≡ opening ++ rest → IsJudged None head
     from_opening None opening rest sound entries opens e = record {
       sound = sound;
@@ -273,7 +289,7 @@ module _ (ex : Exercise) (sheet : Sheet) (bytes : List ℕ) where
         at_front ex it.form head bytes it.front rest
         (sym (take-append-drop (length it.front) bytes) ∙ ap (λ xs. xs ++ rest) it.begins) it.heads
 
-    none_stops : (form : Form) (n at : ℕ) → Heads ex form bytes head n → TextStops ex Second bytes at → ⊥
+    none_stops : (form : Form) (n at : ℕ) → Heads ex form bytes head n → TextStops ex Third bytes at → ⊥
     none_stops form n at heads stops = stops.unfinished form tt n (penalty_of head) heads.within heads.text
 
     one_told_behind : (form : Form) (place : ℕ) (rest : List ℕ) (it other : Option Verdict)
@@ -281,6 +297,7 @@ module _ (ex : Exercise) (sheet : Sheet) (bytes : List ℕ) where
     one_told_behind First place rest it other p q = p ∙ sym q
     one_told_behind Second place rest it other p q =
         one_stated ex sheet (goes_beyond bytes) place rest it other p q
+    one_told_behind Third place rest it other p q = absurd p
 
     one_judged : IsValid ex → (it other : Option Verdict) → IsJudged it head → IsJudged other head → it ≡ other
     one_judged valid it other p q =
@@ -304,38 +321,64 @@ module _ (ex : Exercise) (sheet : Sheet) (bytes : List ℕ) where
         same = append_cancel_left p.front p.rest q.rest
             (sym p.is ∙ q.is ∙ ap (λ xs. xs ++ q.rest) (sym fronts))
 
-  -- ---- the three kinds of verdicts
+  -- ---- the kinds of verdicts
 
   data Kind (it : Verdict) : Type 0 where
-    headless : (at : ℕ) → it ≡ verdicts.Text (WrongHead at) → TextStops ex Second bytes at → Kind it
+    headless : (at : ℕ) → it ≡ verdicts.Text (WrongHead at) → TextStops ex Third bytes at → Kind it
     unsound : (head : CertHead) → it ≡ verdicts.Claim (record { number = 0; why = Head })
-        → IsUnsound ex sheet head 0 bytes → Kind it
+        → (own : IsUnsound ex sheet head 0 bytes) → IsUpTo Second own.form → Kind it
     judged : (head : CertHead) → IsJudged (Some it) head → Kind it
+    priced : (head : CertHead) → IsPriced ex sheet bytes (Some it) head → Kind it
 
-  kind_front : (head : CertHead) (number : ℕ) (why : Why) → RefusesFront ex sheet head number why bytes
-      → Kind (verdicts.Claim (record { number = number; why = why }))
-  kind_front head number Head it =
-      unsound head (ap (λ n. verdicts.Claim (record { number = n; why = Head })) it.numbered)
-      (subst (λ n. IsUnsound ex sheet head n bytes) it.numbered it)
-  kind_front head number Potential it = judged head (of_untrue head number it)
-  kind_front head number False it = absurd it
-  kind_front head number Over it = absurd it
-  kind_front head number Short it = absurd it
-
-  kind_of : (it : Verdict) → Refuses ex sheet it bytes → Kind it
-  kind_of (verdicts.Accepted answer) it = absurd it
-  kind_of (verdicts.Claim refused) it = kind_front it.0 refused.number refused.why it.1
-  kind_of (verdicts.Text (WrongHead at)) it = headless at refl it
-  kind_of (verdicts.Text (CertWord at)) it = judged it.0 (of_stated_word it.0 at it.1)
-  kind_of (verdicts.Text (CertEnd at)) it = judged it.0 (of_stated_end it.0 at it.1)
-  kind_of (verdicts.Text Memory) it = absurd it.1.fault_at
+  early_or_third : (form : Form) → IsUpTo Second form ⊎ (form ≡ Third)
+  early_or_third First = inl tt
+  early_or_third Second = inl tt
+  early_or_third Third = inr refl
 
   module _ (valid : IsValid ex) where
+    kind_unsound : (head : CertHead) (number : ℕ) → IsUnsound ex sheet head number bytes
+        → Kind (verdicts.Claim (record { number = number; why = Head }))
+    kind_unsound head number it = elim (early_or_third it.form) [
+      | inl early ↦ unsound head (ap (λ n. verdicts.Claim (record { number = n; why = Head })) it.numbered)
+          (record {
+            numbered = refl;
+            form = it.form;
+            front = it.front;
+            begins = it.begins;
+            heads = it.heads;
+            listed = it.listed;
+            unsound = it.unsound;
+          }) early
+      | inr third ↦ priced head (of_unsound ex sheet bytes valid head number it.numbered
+          (subst (λ (f : Form). IsListed ex f head bytes) third it.listed) it.unsound)
+    ]
+
+    kind_front : (head : CertHead) (number : ℕ) (why : Why) → RefusesFront ex sheet head number why bytes
+        → Kind (verdicts.Claim (record { number = number; why = why }))
+    kind_front head number Head it = kind_unsound head number it
+    kind_front head number Potential it = judged head (of_untrue head number it)
+    kind_front head number Price it = priced head (of_high ex sheet bytes valid head number it)
+    kind_front head number False it = absurd it
+    kind_front head number Over it = absurd it
+    kind_front head number Short it = absurd it
+
+    kind_stopped : (at : ℕ) → TextStops ex Third bytes at ⊎ ListsStop ex bytes at → Kind (verdicts.Text (WrongHead at))
+    kind_stopped at (inl stops) = headless at refl stops
+    kind_stopped at (inr stop) = priced stop.head (of_stop ex sheet bytes at stop)
+
+    kind_of : (it : Verdict) → Refuses ex sheet it bytes → Kind it
+    kind_of (verdicts.Accepted answer) it = absurd it
+    kind_of (verdicts.Claim refused) it = kind_front it.0 refused.number refused.why it.1
+    kind_of (verdicts.Text (WrongHead at)) it = kind_stopped at it
+    kind_of (verdicts.Text (CertWord at)) it = judged it.0 (of_stated_word it.0 at it.1)
+    kind_of (verdicts.Text (CertEnd at)) it = judged it.0 (of_stated_end it.0 at it.1)
+    kind_of (verdicts.Text Memory) it = absurd it.1.fault_at
+
     same_head : (form another : Form) (head other : CertHead) (n m : ℕ) → Heads ex form bytes head n
         → Heads ex another bytes other m → head ≡ other
     same_head form another head other n m p q = (heads_are_one ex bytes form another head other n m valid p q).1
 
-    one_stop : (a b : ℕ) → TextStops ex Second bytes a → TextStops ex Second bytes b → a ≡ b
+    one_stop : (a b : ℕ) → TextStops ex Third bytes a → TextStops ex Third bytes b → a ≡ b
     one_stop a b p q = omega (arith, p.longest b q.within q.begins, q.longest a p.within p.begins)
 
     not_sound : (head other : CertHead) (it : Option Verdict) → IsUnsound ex sheet head 0 bytes → IsJudged it other → ⊥
@@ -350,33 +393,88 @@ module _ (ex : Exercise) (sheet : Sheet) (bytes : List ℕ) where
         (subst (λ (h : CertHead). IsJudged other h)
         (same_head _ _ others head _ _ (stands others other q) (stands head it p)) q)
 
+    -- no head of another form stands where one of the third does
+    unsound_priced : (head other : CertHead) (its : Option Verdict) (p : IsUnsound ex sheet head 0 bytes)
+        → IsUpTo Second p.form → IsPriced ex sheet bytes its other → ⊥
+    unsound_priced head other its p early q =
+        let one = heads_are_one ex bytes p.form Third head other _ _ valid (stands_unsound head 0 p)
+        (stands_priced ex sheet bytes valid other its q) in
+        subst (λ (f : Form). IsUpTo Second f) one.0 early
+
+    judged_priced : (head other : CertHead) (it its : Option Verdict) → IsJudged it head
+        → IsPriced ex sheet bytes its other → ⊥
+    judged_priced head other it its p q =
+        let one = heads_are_one ex bytes p.form Third head other _ _ valid (stands head it p)
+        (stands_priced ex sheet bytes valid other its q) in
+        subst (λ (f : Form). IsToldBehind f (length p.front) p.rest it) one.0 p.told
+
+    headless_priced : (at : ℕ) (head : CertHead) (its : Option Verdict) → TextStops ex Third bytes at
+        → IsPriced ex sheet bytes its head → ⊥
+    headless_priced at head its p q = none_stops head Third _ at (stands_priced ex sheet bytes valid head its q) p
+
     one_kind : (it other : Verdict) → Kind it → Kind other → it ≡ other
     one_kind it other (headless a e p) (headless b f q) =
         e ∙ ap (λ n. verdicts.Text (WrongHead n)) (one_stop a b p q) ∙ sym f
-    one_kind it other (headless a e p) (unsound head f q) =
+    one_kind it other (headless a e p) (unsound head f q early) =
         absurd (none_stops head _ _ a (stands_unsound head 0 q) p)
     one_kind it other (headless a e p) (judged head q) = absurd (none_stops head _ _ a (stands head (Some other) q) p)
-    one_kind it other (unsound head e p) (headless b f q) =
+    one_kind it other (headless a e p) (priced head q) = absurd (headless_priced a head (Some other) p q)
+    one_kind it other (unsound head e p early) (headless b f q) =
         absurd (none_stops head _ _ b (stands_unsound head 0 p) q)
-    one_kind it other (unsound head e p) (unsound others f q) = e ∙ sym f
-    one_kind it other (unsound head e p) (judged others q) = absurd (not_sound head others (Some other) p q)
+    one_kind it other (unsound head e p early) (unsound others f q also) = e ∙ sym f
+    one_kind it other (unsound head e p early) (judged others q) = absurd (not_sound head others (Some other) p q)
+    one_kind it other (unsound head e p early) (priced others q) =
+        absurd (unsound_priced head others (Some other) p early q)
     one_kind it other (judged head p) (headless b f q) = absurd (none_stops head _ _ b (stands head (Some it) p) q)
-    one_kind it other (judged head p) (unsound others f q) = absurd (not_sound others head (Some it) q p)
+    one_kind it other (judged head p) (unsound others f q early) = absurd (not_sound others head (Some it) q p)
     one_kind it other (judged head p) (judged others q) =
         some_same it other (one_front head others (Some it) (Some other) p q)
+    one_kind it other (judged head p) (priced others q) =
+        absurd (judged_priced head others (Some it) (Some other) p q)
+    one_kind it other (priced head p) (headless b f q) = absurd (headless_priced b head (Some it) q p)
+    one_kind it other (priced head p) (unsound others f q early) =
+        absurd (unsound_priced others head (Some it) q early p)
+    one_kind it other (priced head p) (judged others q) =
+        absurd (judged_priced others head (Some other) (Some it) q p)
+    one_kind it other (priced head p) (priced others q) =
+        some_same it other (one_priced ex sheet bytes valid head others (Some it) (Some other) p q)
 
     -- no sound opening stands where bytes are refused
     no_opening : (it : Verdict) (head : CertHead) → Kind it → IsJudged None head → ⊥
     no_opening it head (headless a e p) own = none_stops head _ _ a (stands head None own) p
-    no_opening it head (unsound other e p) own = not_sound other head None p own
+    no_opening it head (unsound other e p early) own = not_sound other head None p own
     no_opening it head (judged other p) own = some_not_none it (one_front other head (Some it) None p own)
+    no_opening it head (priced other p) own = judged_priced head other None (Some it) own p
+
+    no_lists : (it : Verdict) (head : CertHead) → Kind it → IsPriced ex sheet bytes None head → ⊥
+    no_lists it head (headless a e p) own = headless_priced a head None p own
+    no_lists it head (unsound other e p early) own = unsound_priced other head None p early own
+    no_lists it head (judged other p) own = judged_priced other head (Some it) None p own
+    no_lists it head (priced other p) own =
+        some_not_none it (one_priced ex sheet bytes valid other head (Some it) None p own)
+
+    -- all bytes begin with what those that are judged begin with
+    begins_all : (front rest : List ℕ) → judged_bytes bytes ≡ front ++ rest → StartsWith bytes front
+    begins_all front rest is =
+        let later = drop longest_certificate bytes in
+        front_of bytes front (rest ++ later)
+        (sym (take-append-drop longest_certificate bytes) ∙ ap (λ xs. xs ++ later) is ∙ append_assoc front rest later)
+
+    none_sound : (it : Verdict) (head : CertHead) (stated : Ground) (front rest : List ℕ) → Kind it
+        → IsHeadSound ex sheet head → AreTrueStated ex sheet stated → IsOpeningOf ex head stated front
+        → judged_bytes bytes ≡ front ++ rest → ⊥
+    none_sound it head (Numbers stated) front rest kind sound its opens is =
+        no_opening it head kind (from_opening head stated front rest sound its opens is)
+    none_sound it head (Lists lines) front rest kind sound its opens is =
+        no_lists it head kind
+        (of_due ex sheet bytes valid head
+        (record { lines = lines; opening = front; opens = opens; begins = begins_all front rest is }) sound its)
 
     pub settings_once : IsRefusedOnce (setting_subject record { exercise = ex; sheet = sheet }) bytes
     settings_once = record {
       one = λ it other p q. one_kind it other (kind_of it p) (kind_of other q);
       none = λ it opening front rest p sound opens is.
-          no_opening it opening.head (kind_of it p)
-          (from_opening opening.head opening.stated front rest sound.head sound.entries opens is);
+          none_sound it opening.head opening.stated front rest (kind_of it p) sound.head sound.stated opens is;
     }
 
 pub one_verdict : (ex : Exercise) (sheet : Sheet) (bytes : List ℕ) (it other : Verdict) → IsValid ex

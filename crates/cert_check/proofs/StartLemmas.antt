@@ -7,7 +7,7 @@ use Rattle.cert_text.specs.declared.answers.CertFault.{CertFault}
 use Rattle.cert_text.specs.declared.answers.CertFault.TheVariants.{CertHead, Memory}
 use Rattle.cert_text.specs.declared.answers.CertHead.{CertHead as Head}
 use Rattle.cert_text.specs.declared.answers.Form.{Form}
-use Rattle.cert_text.specs.declared.answers.Form.TheVariants.{Second}
+use Rattle.cert_text.specs.declared.answers.Form.TheVariants.{Third}
 use Rattle.cert_text.specs.HeadTexts.{HasLines, Heads, TextStops, penalty_of}
 use Rattle.cert_text.specs.SingItems.{IsHeadText}
 use Rattle.cert_text.proofs.HeadBacks.{heads_before, stops_whole}
@@ -21,15 +21,15 @@ module _ (ex : Exercise) (files : Files) (name bytes : List ℕ)
     (known : MayBe files name (λ all. bytes ≡ take longest_piece all)) where
   -- a head is shorter than a piece, so one that stops in the first piece stops so in the whole file
   pub head_stops : IsValid ex → (rose : Type 0) (fault : CertFault)
-      → (fault ≡ Memory) ⊎ ((at : ℕ) × (fault ≡ CertHead at) × TextStops ex Second bytes at)
+      → (fault ≡ Memory) ⊎ ((at : ℕ) × (fault ≡ CertHead at) × TextStops ex Third bytes at)
       → Starts ex files name rose (Err (Text fault))
   head_stops valid rose fault cause = elim cause [
     | inl e ↦ subst (λ it. Starts ex files name rose (Err (Text it))) (sym e) tt
     | inr stops ↦ subst (λ it. Starts ex files name rose (Err (Text it))) (sym stops.1) (record {
       bytes = known.bytes;
       had = known.had;
-      such = stops_whole ex valid known.bytes Second longest_piece stops.0 (omega arith)
-          (subst (λ xs. TextStops ex Second xs stops.0) known.such stops.2);
+      such = stops_whole ex valid known.bytes Third longest_piece stops.0 (omega arith)
+          (subst (λ xs. TextStops ex Third xs stops.0) known.such stops.2);
     })
   ]
 
@@ -52,6 +52,11 @@ module _ (ex : Exercise) (files : Files) (name bytes : List ℕ)
               (sym (take-append-drop used bytes) ∙ ap (λ xs. take used bytes ++ xs) (sym is))
               (first_begins files name bytes longest_piece known);
           offset = omega (arith, far, size, heads.within, ap length is, length-drop used bytes);
+        };
+        first = record {
+          bytes = known.bytes;
+          had = known.had;
+          such = sym known.such ∙ sym (take-append-drop used bytes) ∙ ap (λ xs. take used bytes ++ xs) (sym is);
         };
       }
 

@@ -9,11 +9,11 @@ ghost use Rattle.cert_law.specs.Cases.{IsCase};
 ghost use Rattle.cert_law.specs.Entries.{AreTrueEntries};
 ghost use Rattle.cert_law.specs.Known.{ways_of};
 ghost use Rattle.cert_check.specs.Opening.{IsChecking, TellsWhy, opened_for};
-ghost use Rattle.cert_check.specs.Settings.{IsSound};
+ghost use Rattle.cert_check.specs.Settings.{IsSound, Numbers};
 ghost use Rattle.floor_tables.specs.Tables.{AreNarrow};
 ghost use Rattle.fux_grid.specs.Exercises.{IsValid};
 
-use crate::head::is_sound;
+use crate::head::{accepted_by, is_sound};
 use cert_file::{Checks, refused_by};
 use cert_law::{Case, PrefixKnown, TailedCase, Tails};
 use cert_text::{Accepted, CertHead, Claim, Refused, Why};
@@ -53,7 +53,7 @@ impl<'a, T: Tails> Model for Checker<'a, T> {
     ghost use Rattle.std.specs.Prelude.{List as Items};
     ghost use Rattle.cert_file.specs.Checking.{Checking, refused_by};
     ghost use Rattle.cert_check.specs.Opening.{IsChecking};
-    ghost use Rattle.cert_check.specs.Settings.{Asked as AnAsked, Opening as AnOpening};
+    ghost use Rattle.cert_check.specs.Settings.{Asked as AnAsked, Numbers, Opening as AnOpening};
     ghost use Rattle.fux_grid.specs.declared.cell.Cell.{Cell as ACell};
     ghost use Rattle.cert_law.specs.Known.{ways_of};
     ghost use Rattle.cert_tree.specs.Walks.{owed_by_walk};
@@ -62,7 +62,7 @@ impl<'a, T: Tails> Model for Checker<'a, T> {
 
     ghost view = { λ c. record {
       asked = record { exercise = c.exercise.now; sheet = c.sheet.now };
-      head = record { head = c.head; stated = (T.basis c.tails).stated };
+      head = record { head = c.head; stated = Numbers (T.basis c.tails).stated };
       owed = owed_by_walk (ways_of c.exercise.now) c.judging.walk;
       count = c.judging.taken;
       refusal = option_map refused_by c.judging.refusal;
@@ -110,7 +110,8 @@ impl<'a> Checker<'a, Tables<'a>> {
         head: CertHead,
     ) -> Result<Checker<'a, Tables<'a>>, OpenFault>
         requires { IsValid ex.now }
-        ensures opened { IfOk result (λ c. c ≡ opened_for ex.entry.now sheet.entry.now head None) }
+        ensures opened { IfOk result (λ c. c ≡ opened_for ex.entry.now sheet.entry.now head
+            (Numbers None)) }
 
         // Width comes first; then the head is judged, before any claim.
         ensures narrow { OnOk result (AreNarrow ex.entry.now) }
@@ -151,7 +152,7 @@ impl<'a, T: Tails + Drop> Checker<'a, T> {
             (T.basis tails) }
         requires entries { IfSome (T.basis tails).stated (AreTrueEntries exercise.now sheet.now) }
         ensures { IfOk result (λ c. c ≡ opened_for exercise.entry.now sheet.entry.now head
-            (T.basis tails).stated) }
+            (Numbers (T.basis tails).stated)) }
     {
         let judging = begun(alloc, exercise, sheet, &head, &tails)?;
         Ok(Checker {
@@ -211,10 +212,7 @@ impl<'a, T: Tails + Drop> Checks for Checker<'a, T> {
             head: &self.head,
         };
         match finish(&TailedCase::new(case, &self.tails), &self.judging) {
-            Ok(()) => Ok(match &self.head {
-                CertHead::Best { penalty, .. } => Accepted::Best(*penalty),
-                CertHead::Nothing => Accepted::Nothing,
-            }),
+            Ok(()) => Ok(accepted_by(&self.head)),
             Err(refusal) => Err(refused_by(refusal)),
         }
     }

@@ -2,8 +2,10 @@
 
 ghost use Rattle.std.specs.Prelude.{◌≡◌, ◌≢◌, ◌+◌, ◌≤◌, ◌⊎◌, [], Err, IfErr, IfOk, OnOk};
 ghost use Rattle.cert_text.specs.declared.answers.CertHead.{CertHead as AHead};
-ghost use Rattle.cert_check.specs.Answers.{Answers, IsHeadless, unopened, unstarted};
+ghost use Rattle.cert_check.specs.Answers.{Answers, IsHeadless, TellsNoWidth, unopened, unstarted};
 ghost use Rattle.cert_check.specs.Entering.{unclosed};
+ghost use Rattle.cert_check.specs.Listed.{unwoven};
+ghost use Rattle.cert_check.specs.declared.checking.CheckFault.TheVariants.{Memory as no_memory};
 ghost use Rattle.cert_file.specs.Checking.{opened_at};
 ghost use Rattle.cert_file.specs.Nearness.{IsReadNear, ReadsNear};
 ghost use Rattle.cert_file.specs.Readings.{longest_piece};
@@ -18,14 +20,17 @@ ghost use Rattle.fux_port.specs.Promises.{ServesWhole};
 
 use crate::checker::{Checker, OpenFault};
 use crate::entering::enter;
+use crate::priced::check_third;
 use crate::starting::start;
 use crate::stated::{CloseFault, Stated};
 use cert_file::{Pieces, ReadFault, Reader, StatedReader, Verdict, judge};
 use cert_law::Tails;
 use cert_text::{CertFault, CertHead, Form};
 use fux_grid::{Exercise, Place};
+use fux_pitch::Memory;
 use fux_port::{Failed, Shelf};
 use penalty_sheet::Sheet;
+use price_check::WebFault;
 use std::alloc::Global;
 use std::thread::Threads;
 
@@ -36,13 +41,35 @@ pub enum CheckFault {
     Unreadable,
     /// A menu has more than 8,192 columns: the first such place, and how many it has.
     TooWide { place: Place, count: u64 },
+    /// What the lists of a certificate of the third form keep is too much for a graph.
+    TooLarge,
     /// There was not enough memory.
     Memory,
 }
 
-/// Judges the file of a certificate of either form, read in pieces of at most 65,536 bytes. All
-/// memory is taken before the first claim is judged. The second form is judged without tables: what
-/// it states is compared, and the claims are judged by that.
+impl From<Memory> for CheckFault {
+    ghost from_gives = { λ _ fault. fault ≡ no_memory };
+
+    fn from(_: Memory) -> Self {
+        CheckFault::Memory
+    }
+}
+
+impl From<WebFault> for CheckFault {
+    ghost from_gives = { λ fault found. found ≡ unwoven fault };
+
+    fn from(fault: WebFault) -> Self {
+        match fault {
+            WebFault::TooLarge => CheckFault::TooLarge,
+            WebFault::Memory => CheckFault::Memory,
+        }
+    }
+}
+
+/// Judges the file of a certificate of any form, read in pieces of at most 65,536 bytes. All memory
+/// is taken before the first claim is judged. The second form is judged without tables: what it
+/// states is compared, and the claims are judged by that. In the third form numbers are worked from
+/// the prices that it states.
 pub fn check_file<R: Threads + Sync, F: Shelf>(
     rt: &R,
     alloc: Global,
@@ -78,8 +105,7 @@ pub fn check_file<R: Threads + Sync, F: Shelf>(
 
     // A menu that is too wide keeps the claims from being judged, and nothing else is told to be
     // too wide.
-    ensures narrow { AreNarrow ex.now
-        → IfErr result (λ fault. (fault ≡ CheckFault.Unreadable) ⊎ (fault ≡ CheckFault.Memory)) }
+    ensures narrow { AreNarrow ex.now → IfErr result TellsNoWidth }
     ensures wide { (AreNarrow ex.now → ⊥) → IfOk result IsHeadless }
 
     ensures files { F.files shelf.new ≡ F.files shelf.old }
@@ -92,6 +118,7 @@ pub fn check_file<R: Threads + Sync, F: Shelf>(
     match form {
         Form::First => check_first(rt, alloc, ex, sheet, shelf, name, head, pieces),
         Form::Second => check_second(rt, alloc, ex, sheet, shelf, name, head, pieces),
+        Form::Third => check_third(rt, alloc, ex, sheet, shelf, name, head, pieces),
     }
 }
 
@@ -198,7 +225,7 @@ fn judge_claims<F: Shelf, T: Tails + Drop>(
 }
 
 /// The answer where no head was read, or not all that is stated.
-fn not_started(fault: ReadFault) -> Result<Verdict, CheckFault>
+pub(crate) fn not_started(fault: ReadFault) -> Result<Verdict, CheckFault>
     ensures { result ≡ unstarted fault }
 {
     match fault {

@@ -2,6 +2,7 @@
 
 ghost use Rattle.std.specs.Prelude.{◌≡◌, ◌↔◌, ◌<◌, ◌&&◌, ℕ, IsTrue, false, length};
 ghost use Rattle.std.specs.List.{Contains, list_any};
+ghost use Rattle.cert_check.specs.Settings.{accepted_of};
 ghost use Rattle.cert_law.specs.Certificates.{IsHeadSound};
 ghost use Rattle.fux_grid.specs.Exercises.{IsComplete, IsValid, columns_in};
 ghost use Rattle.fux_grid.specs.Menus.{IsInMenu, cells_at};
@@ -10,7 +11,7 @@ ghost use Rattle.fux_judge.specs.Penalties.{is_strict_at};
 ghost use Rattle.fux_judge.specs.Rules.{all_sets, is_broken};
 ghost use Rattle.rule_law.specs.Prefixes.{IsSetting};
 
-use cert_text::CertHead;
+use cert_text::{Accepted, CertHead};
 use fux_grid::{Cell, Column, Exercise, Score, VoiceSet, cell_of, voice_cells};
 use fux_judge::{every_rule, every_set, is_broken_in, penalty};
 use penalty_sheet::{Sheet, price_at};
@@ -119,5 +120,15 @@ pub fn is_sound(ex: &Exercise, sheet: &Sheet, head: &CertHead) -> bool
                 None => false,
             }
         }
+    }
+}
+
+/// What a head shows where it is accepted.
+pub(crate) fn accepted_by(head: &CertHead) -> Accepted
+    ensures { result ≡ accepted_of head.now }
+{
+    match head {
+        CertHead::Best { penalty, .. } => Accepted::Best(*penalty),
+        CertHead::Nothing => Accepted::Nothing,
     }
 }

@@ -7,6 +7,8 @@ mod checking;
 mod entering;
 mod head;
 mod one_verdict;
+mod priced;
+mod sharp_checker;
 mod starting;
 mod stated;
 

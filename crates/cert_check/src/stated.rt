@@ -3,6 +3,7 @@
 
 ghost use Rattle.std.specs.Prelude.{◌≡◌, ◌+◌, ◌<◌, ◌++◌, ◌∷◌, [], Some, length, IfErr, IfOk, OnOk};
 ghost use Rattle.cert_check.specs.Opening.{TellsWhy, opened_for};
+ghost use Rattle.cert_check.specs.Settings.{Numbers};
 ghost use Rattle.cert_check.specs.Stating.{TellsFalse, stating_for};
 ghost use Rattle.cert_law.specs.Certificates.{IsHeadSound};
 ghost use Rattle.cert_law.specs.Entries.{AreTrueEntries, entry_count};
@@ -118,7 +119,7 @@ impl<'a> Stated<'a> {
     ) -> Result<Checker<'a, Entries<'a>>, CloseFault>
         requires whole { length self.entries ≡ entry_count self.exercise }
         ensures opened { IfOk result (λ c. c ≡ opened_for self.entry.exercise self.entry.sheet
-            self.entry.head (Some self.entry.entries)) }
+            self.entry.head (Numbers (Some self.entry.entries))) }
         ensures true_entries { OnOk result (AreTrueEntries self.entry.exercise self.entry.sheet
             self.entry.entries) }
         ensures refused { IfErr result (TellsFalse self.entry) }

@@ -53,6 +53,20 @@ returns-in-Second-clause-accepts g c =
     (Rose (g.F.Shelf.faults c.args.shelf.now) (g.F.Shelf.faults c.check_second.new.shelf)) c.requires.valid
     c.check_second.result (returns-in-Second-clause-answers g c)
 
+pub returns-in-Third-clause-answers : goal.returns-in-Third-clause-answers
+returns-in-Third-clause-answers g c =
+    let faults = g.F.Shelf.faults c.check_third.new.shelf in
+    answers_moved c.args.ex.now c.args.sheet.now (g.F.Shelf.files c.start.new.shelf) c.args.name.now
+    (Rose (g.F.Shelf.faults c.start.new.shelf) faults) (g.F.Shelf.files c.args.shelf.now)
+    (Rose (g.F.Shelf.faults c.args.shelf.now) faults) c.check_third.result c.start.ensures.files
+    (rose_later _ _ _ c.start.ensures.faults) c.check_third.ensures.answers
+
+pub returns-in-Third-clause-accepts : goal.returns-in-Third-clause-accepts
+returns-in-Third-clause-accepts g c =
+    accepted_answer c.args.ex.now c.args.sheet.now (g.F.Shelf.files c.args.shelf.now) c.args.name.now
+    (Rose (g.F.Shelf.faults c.args.shelf.now) (g.F.Shelf.faults c.check_third.new.shelf)) c.requires.valid
+    c.check_third.result (returns-in-Third-clause-answers g c)
+
 -- ---- how much is read
 
 pub returns-in-Err-clause-near : goal.returns-in-Err-clause-near
@@ -77,3 +91,13 @@ returns-in-Second-clause-near g c =
     (g.F.Shelf.given c.check_second.new.shelf + c.in-Ok.started.2.offset) (g.F.Shelf.given c.check_second.new.shelf) it
     c.start.ensures.files (λ read few. omega (arith, few, c.in-Ok.ensures.told)) near)
     c.check_second.ensures.near
+
+pub returns-in-Third-clause-near : goal.returns-in-Third-clause-near
+returns-in-Third-clause-near g c =
+    let asked : Asked = record { exercise = c.args.ex.now; sheet = c.args.sheet.now } in
+    IfOk-weaker c.check_third.result _ _
+    (λ it near. read_moved (setting_subject asked) (g.F.Shelf.files c.start.new.shelf) c.args.name.now
+    (g.F.Shelf.files c.args.shelf.now) (g.F.Shelf.given c.args.shelf.now) (g.F.Shelf.given c.start.new.shelf)
+    (g.F.Shelf.given c.check_third.new.shelf + c.in-Ok.started.2.offset) (g.F.Shelf.given c.check_third.new.shelf) it
+    c.start.ensures.files (λ read few. omega (arith, few, c.in-Ok.ensures.told)) near)
+    c.check_third.ensures.near

@@ -4,7 +4,7 @@ use Rattle.std.proofs.lemmas.Result.{IfOk-weaker}
 use Rattle.cert_check.specs.Answers.{Answers}
 use Rattle.cert_file.specs.Checking.{Checking, opened_at}
 use Rattle.cert_file.specs.Subjects.{IsOpened}
-use Rattle.cert_check.specs.Settings.{Asked, IsOpeningText, Opening, setting_subject}
+use Rattle.cert_check.specs.Settings.{Asked, IsOpeningText, Numbers, Opening, setting_subject}
 use Rattle.cert_file.specs.Nearness.{ReadsNear}
 use Rattle.cert_file.proofs.NearLemmas.{each_verdict, near_moved}
 use Rattle.fux_grid.specs.declared.cell.Cell.{Cell}
@@ -23,7 +23,7 @@ returns-in-Err-clause-answers g c =
     subst (λ (r : Result Verdict CheckFault). Answers c.args.ex.now c.args.sheet.now files c.args.name.now rose r)
     (sym c.not_opened.ensures)
     (opening_answer c.args.ex.now c.args.sheet.now files c.args.name.now rose First c.args.head c.args.pieces
-    c.in-Err.fault c.requires.started c.in-Err.ensures.fault)
+    c.in-Err.fault tt c.requires.started c.in-Err.ensures.fault)
 
 pub returns-in-Err-clause-narrow : goal.returns-in-Err-clause-narrow
 returns-in-Err-clause-narrow g c =
@@ -35,7 +35,7 @@ judge_claims-requires-clause-opened g c =
     let files = g.F.Shelf.files c.args.shelf.now in
     subst (λ (k : Checking Asked Opening (List (List Cell))). IsOpened (IsOpeningText k.asked.exercise) files c.args.name.now k.head c.behind.result)
     (sym c.in-Ok.ensures.opened)
-    (subst (λ (r : Reading). IsOpened (IsOpeningText c.args.ex.now) files c.args.name.now (record { head = c.args.head; stated = None }) r)
+    (subst (λ (r : Reading). IsOpened (IsOpeningText c.args.ex.now) files c.args.name.now (record { head = c.args.head; stated = Numbers None }) r)
     (sym c.behind.ensures)
     (first_opened c.args.ex.now files c.args.name.now c.args.head c.args.pieces c.requires.started))
 
@@ -51,7 +51,7 @@ returns-in-Err-clause-near g c = each_verdict _ c.not_opened.result (λ it. inl 
 pub returns-clause-near : goal.returns-clause-near
 returns-clause-near g c =
     let asked : Asked = record { exercise = c.args.ex.now; sheet = c.args.sheet.now } in
-    let opening : Opening = record { head = c.args.head; stated = None } in
+    let opening : Opening = record { head = c.args.head; stated = Numbers None } in
     let files = g.F.Shelf.files c.args.shelf.now in
     let name = c.args.name.now in
     let before = g.F.Shelf.given c.args.shelf.now in

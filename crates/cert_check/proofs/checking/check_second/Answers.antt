@@ -4,7 +4,7 @@ use Rattle.std.proofs.lemmas.Result.{IfOk-weaker}
 use Rattle.cert_check.specs.Answers.{Answers, unstarted}
 use Rattle.cert_file.specs.Checking.{Checking, opened_at}
 use Rattle.cert_file.specs.Subjects.{IsOpened}
-use Rattle.cert_check.specs.Settings.{Asked, IsOpeningText, Opening, setting_subject}
+use Rattle.cert_check.specs.Settings.{Asked, IsOpeningText, Numbers, Opening, setting_subject}
 use Rattle.cert_file.specs.Nearness.{IsReadNear, ReadsNear}
 use Rattle.cert_file.proofs.NearLemmas.{each_verdict, near_moved}
 use Rattle.cert_check.proofs.NearLemmas.{closed_near, entered_near}
@@ -30,7 +30,7 @@ returns-in-Err-clause-answers g c =
     subst (λ (r : Result Verdict CheckFault). Answers c.args.ex.now c.args.sheet.now files c.args.name.now rose r)
     (sym c.not_opened.ensures)
     (opening_answer c.args.ex.now c.args.sheet.now files c.args.name.now rose Second c.args.head c.args.pieces
-    c.in-Err.fault c.requires.started c.in-Err.ensures.fault)
+    c.in-Err.fault tt c.requires.started c.in-Err.ensures.fault)
 
 pub enter-requires-clause-entered : goal.enter-requires-clause-entered
 enter-requires-clause-entered g c =
@@ -73,10 +73,10 @@ judge_claims-requires-clause-opened g c =
     (sym c.in-Ok-close.ensures.opened)
     (subst
     (λ (t : Stating). IsOpened (IsOpeningText t.exercise) (g.F.Shelf.files c.enter.new.shelf) name
-    (record { head = t.head; stated = Some entries }) claims)
+    (record { head = t.head; stated = Numbers (Some entries) }) claims)
     (sym enters.0)
-    (subst (λ (fs : Files). IsOpened (IsOpeningText s.exercise) fs name (record { head = s.head; stated = Some entries }) claims) (sym c.enter.ensures.files)
-    (subst (λ (r : Reading). IsOpened (IsOpeningText s.exercise) files name (record { head = s.head; stated = Some entries }) r) (sym c.claims.ensures)
+    (subst (λ (fs : Files). IsOpened (IsOpeningText s.exercise) fs name (record { head = s.head; stated = Numbers (Some entries) }) claims) (sym c.enter.ensures.files)
+    (subst (λ (r : Reading). IsOpened (IsOpeningText s.exercise) files name (record { head = s.head; stated = Numbers (Some entries) }) r) (sym c.claims.ensures)
     (claims_opened s.exercise files name s.head entries c.enter.new.reader enters.1))))
 
 pub returns-in-Ok-close-clause-answers : goal.returns-in-Ok-close-clause-answers
@@ -133,7 +133,7 @@ returns-in-Err-enter-clause-near g c =
     subst
     (λ (r : Result Verdict CheckFault). IfOk r (IsReadNear (setting_subject asked) files c.args.name.now before past))
     (sym c.not_started.ensures)
-    (entered_near asked files c.args.name.now before past (record { head = c.args.head; stated = None }) _ c.in-Ok.stated
+    (entered_near asked files c.args.name.now before past (record { head = c.args.head; stated = Numbers None }) _ c.in-Ok.stated
     c.enter.new.stated c.enter.new.reader c.in-Err-enter.fault c.enter.new.reader.offset
     (omega (arith, c.enter.ensures.little, from)) c.in-Err-enter.ensures.enters
     (λ place is.
@@ -174,7 +174,7 @@ returns-in-Ok-close-clause-near g c =
     let far = c.claims.result.offset in
     let result = c.judge_claims.result in
     IfOk-weaker result _ _
-    (λ it near. near_moved (setting_subject asked) (record { head = c.args.head; stated = Some entries }) then name
+    (λ it near. near_moved (setting_subject asked) (record { head = c.args.head; stated = Numbers (Some entries) }) then name
     (g.F.Shelf.files c.args.shelf.now) before mid (past + far) (past + c.args.pieces.offset) it c.enter.ensures.files
     (λ read few. omega (
       arith,
@@ -185,11 +185,11 @@ returns-in-Ok-close-clause-near g c =
     )) near)
     (subst
     (λ (s : Stating). IfOk result (ReadsNear (setting_subject record { exercise = s.exercise; sheet = s.sheet })
-    (record { head = s.head; stated = Some entries }) then name mid (past + far)))
+    (record { head = s.head; stated = Numbers (Some entries) }) then name mid (past + far)))
     c.in-Ok.ensures.opened
     (subst
     (λ (t : Stating). IfOk result (ReadsNear (setting_subject record { exercise = t.exercise; sheet = t.sheet })
-    (record { head = t.head; stated = Some entries }) then name mid (past + far)))
+    (record { head = t.head; stated = Numbers (Some entries) }) then name mid (past + far)))
     c.in_default.ensures.enters.0
     (subst (λ (k : Checking Asked Opening (List (List Cell))). IfOk result (ReadsNear (setting_subject k.asked) k.head then name mid (past + far)))
     c.in-Ok-close.ensures.opened c.judge_claims.ensures.near)))

@@ -2,7 +2,7 @@ use Rattle.std.proofs.Common.{◌≡◌, ◌⊎◌, ℕ, ◌≤◌, length, take
 use Rattle.std.proofs.lemmas.List.{length-take-le}
 use Rattle.fux_port.specs.Counts.{Rose}
 use Rattle.cert_text.specs.declared.answers.CertFault.TheVariants.{CertHead, Memory}
-use Rattle.cert_text.specs.declared.answers.Form.TheVariants.{Second}
+use Rattle.cert_text.specs.declared.answers.Form.TheVariants.{Third}
 use Rattle.cert_text.specs.HeadTexts.{Heads, TextStops}
 use Rattle.cert_file.specs.Readings.{Piece, longest_piece}
 use Rattle.cert_check.specs.Starts.{IsStarted}
@@ -65,7 +65,7 @@ returns-in-Err-clause-starts g c =
     (Rose (g.F.Shelf.faults c.args.shelf.now) (g.F.Shelf.faults c.fill.new.shelf))
     c.in-Err.fault
     (subst
-    (λ xs. (c.in-Err.fault ≡ Memory) ⊎ ((at : ℕ) × (c.in-Err.fault ≡ CertHead at) × TextStops ex Second xs at)) read
+    (λ xs. (c.in-Err.fault ≡ Memory) ⊎ ((at : ℕ) × (c.in-Err.fault ≡ CertHead at) × TextStops ex Third xs at)) read
     c.in-Err.ensures.fault)
 
 pub returns-in-Err-clause-missing : goal.returns-in-Err-clause-missing

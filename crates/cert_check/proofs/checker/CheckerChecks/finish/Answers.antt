@@ -17,8 +17,8 @@ finish-requires-clause-kept g c =
     c.self.inside.judging)
     (sym c.new.ensures) c.self.invariant.kept
 
-pub returns-in-Best-clause-shown : goal.returns-in-Best-clause-shown
-returns-in-Best-clause-shown g c =
+pub returns-in-Ok-clause-shown : goal.returns-in-Ok-clause-shown
+returns-in-Ok-clause-shown g c =
     let t : Matter = record {
       exercise = c.self.inside.exercise.now;
       sheet = c.self.inside.sheet.now;
@@ -29,31 +29,8 @@ returns-in-Best-clause-shown g c =
     (head_holds tailed c.self.invariant.case c.self.invariant.entries
     (subst (λ (x : Tailed). (s : List (List Cell)) → RefutesExcluded x s → ⊥) c.new.ensures c.in-Ok.ensures.shown))
 
-pub returns-in-Nothing-clause-shown : goal.returns-in-Nothing-clause-shown
-returns-in-Nothing-clause-shown g c =
-    let t : Matter = record {
-      exercise = c.self.inside.exercise.now;
-      sheet = c.self.inside.sheet.now;
-      head = c.self.inside.head;
-    } in
-    let tailed = tailed_of t (g.T.Tails.basis c.self.inside.tails) in
-    subst (λ (s : Checking Asked Opening (List (List Cell))). Holds s.asked.exercise s.asked.sheet s.head.head) c.self.view_is
-    (head_holds tailed c.self.invariant.case c.self.invariant.entries
-    (subst (λ (x : Tailed). (s : List (List Cell)) → RefutesExcluded x s → ⊥) c.new.ensures c.in-Ok.ensures.shown))
-
-pub returns-in-Best-clause-certified : goal.returns-in-Best-clause-certified
-returns-in-Best-clause-certified g c =
-    let t : Matter = record {
-      exercise = c.self.inside.exercise.now;
-      sheet = c.self.inside.sheet.now;
-      head = c.self.inside.head;
-    } in
-    let tailed = tailed_of t (g.T.Tails.basis c.self.inside.tails) in
-    certified_by tailed c.new.result c.new.ensures c.self.inside.judging c.args.self.now c.self.view_is
-    (opening_sound tailed c.self.invariant.case c.self.invariant.entries) c.in-Ok.ensures.certified
-
-pub returns-in-Nothing-clause-certified : goal.returns-in-Nothing-clause-certified
-returns-in-Nothing-clause-certified g c =
+pub returns-in-Ok-clause-certified : goal.returns-in-Ok-clause-certified
+returns-in-Ok-clause-certified g c =
     let t : Matter = record {
       exercise = c.self.inside.exercise.now;
       sheet = c.self.inside.sheet.now;

@@ -1,0 +1,184 @@
+use Rattle.std.proofs.Common.{◌≡◌, ◌+◌, [], Err, List, Result, length, map, refl, sym, ap, subst, ◌∙◌, arith}
+use Rattle.std.specs.Prelude.{IfOk}
+use Rattle.std.specs.List.{AllByRecursion}
+use Rattle.std.proofs.lemmas.List.{length-map}
+use Rattle.std.proofs.lemmas.Result.{err_from_is_err_and}
+use Rattle.cert_check.specs.Answers.{Answers}
+use Rattle.cert_check.specs.Settings.{Asked, IsOpeningText, Lists, Opening, setting_subject}
+use Rattle.cert_check.specs.declared.checking.CheckFault.{CheckFault}
+use Rattle.cert_check.proofs.PricedLemmas.{are_for, few_stated, floors_stated, has_tails, is_case, unwoven_answer}
+use Rattle.cert_file.specs.Checking.{Checking, opened_at}
+use Rattle.cert_file.specs.Nearness.{ReadsNear}
+use Rattle.cert_file.specs.Subjects.{IsOpened}
+use Rattle.cert_file.specs.declared.verdict.Verdict.{Verdict}
+use Rattle.cert_law.specs.Rests.{HasSmallWeights}
+use Rattle.fux_grid.specs.declared.cell.Cell.{Cell}
+use Rattle.fux_grid.specs.declared.exercise.Exercise.{Exercise}
+use Rattle.fux_port.specs.Counts.{Rose}
+use Rattle.penalty_sheet.specs.declared.sheet.Sheet.{Sheet}
+use Rattle.price_check.specs.declared.floors.ListFloor.{ListFloor}
+use Rattle.price_check.specs.Floors.{AreFor, list_of}
+use Rattle.price_check.specs.Sharps.{Sharp}
+use Rattle.price_check.specs.Woven.{AreOf, list_priced}
+use Rattle.price_lists.specs.declared.stated.OwnList.{OwnList}
+use Rattle.price_lists.specs.Owned.{AreKeys, IsFit, list_owned}
+use Rattle.price_lists.specs.Stated.{AreDue, AreStated}
+use Rattle.price_lists.proofs.Fit.{lists_fit}
+use Rattle.price_lists.proofs.Keys.{lists_have_keys}
+use Rattle.price_text.specs.PriceLines.{line_of}
+use Rattle.cert_check.proofs.priced.judge_lists.Goals as goal
+
+pub lists_stated-requires : goal.lists_stated-requires
+lists_stated-requires g c =
+    lists_have_keys c.args.space.now.exercise (map line_of c.args.lines.now) c.requires.lists
+
+pub priced_lists-requires : goal.priced_lists-requires
+priced_lists-requires g c =
+    let lines = map line_of c.args.lines.now in
+    let sheet = c.args.space.now.sheet in
+    let small = subst HasSmallWeights c.sheet-sheet.ensures c.weights_are_small.ensures in
+    let stated = subst (λ (s : Sheet). AreStated s lines (map list_owned c.in_ok-own.own.items)) c.sheet-sheet.ensures
+    c.in_ok-own.ensures in
+    subst (λ (os : List OwnList). AllByRecursion (IsFit sheet) (map list_owned os)) (sym c.deref.ensures.value)
+    (lists_fit sheet lines (map list_owned c.in_ok-own.own.items) small
+    (lists_have_keys c.args.space.now.exercise lines c.requires.lists) c.requires.front.due stated)
+
+pub webs_of-requires : goal.webs_of-requires
+webs_of-requires g c = record {
+  task = c.args.space.now;
+  all = subst (AreOf c.args.space.now) (sym c.deref-2.ensures.value) c.in_ok-lists.ensures.space;
+}
+
+pub returns-in_err-webs-clause-answers : goal.returns-in_err-webs-clause-answers
+returns-in_err-webs-clause-answers g c =
+    let files = g.F.Shelf.files c.args.shelf.now in
+    let name = c.args.name.now in
+    let rose = Rose (g.F.Shelf.faults c.args.shelf.now) (g.F.Shelf.faults c.args.shelf.now) in
+    let ex = c.args.space.now.exercise in
+    let sheet = c.args.space.now.sheet in
+    let told = err_from_is_err_and c.from_residual-in_err-webs.result c.from_residual-in_err-webs.ensures.1 in
+    subst (λ (r : Result Verdict CheckFault). Answers ex sheet files name rose r) (sym (told.1 ∙ ap Err told.2))
+    (unwoven_answer ex sheet files name rose c.args.head.now (map line_of c.args.lines.now) c.args.reader
+    c.requires.opened _)
+
+pub list_numbers-requires : goal.list_numbers-requires
+list_numbers-requires g c =
+    rw (c.deref-3.ensures.value, c.deref-4.ensures.value) (rw c.deref-2.ensures.value at c.in_ok-webs.ensures)
+
+pub list_floors-requires-clause-webs : goal.list_floors-requires-clause-webs
+list_floors-requires-clause-webs g c =
+    rw (c.deref-5.ensures.value, c.deref-6.ensures.value) (rw c.deref-2.ensures.value at c.in_ok-webs.ensures)
+
+pub new-it-requires-clause-case : goal.new-it-requires-clause-case
+new-it-requires-clause-case g c =
+    is_case c.args.space.now c.exercise-exercise.result.now c.sheet-sheet.result.now c.args.head.now
+    c.exercise-exercise.ensures.value c.sheet-sheet.ensures c.exercise-exercise.ensures.valid c.requires.front.sound
+
+pub new-it-requires-clause-tables : goal.new-it-requires-clause-tables
+new-it-requires-clause-tables g c =
+    has_tails c.args.space.now c.exercise-exercise.result.now c.sheet-sheet.result.now c.args.head.now
+    c.exercise-exercise.ensures.value c.sheet-sheet.ensures c.tables.result.now c.tables.ensures.value
+    c.tables.ensures.narrow
+
+pub new-it-requires-clause-few : goal.new-it-requires-clause-few
+new-it-requires-clause-few g c =
+    let lines = map line_of c.args.lines.now in
+    let floors = c.in_ok-floors.floors.items in
+    let stated = floors_stated c.sheet-sheet.result.now lines c.in_ok-own.own.items c.in_ok-lists.lists.items floors
+    c.in_ok-own.ensures (c.in_ok-lists.ensures.lists ∙ ap (map list_owned) c.deref.ensures.value)
+    (c.in_ok-floors.ensures.lists ∙ ap (map list_priced) c.deref-5.ensures.value) in
+    omega (
+      arith,
+      few_stated c.args.space.now.exercise c.sheet-sheet.result.now lines (map list_of floors) c.requires.lists stated,
+      length-map floors list_of,
+      ap length c.deref-8.ensures.value,
+    )
+
+pub new-it-requires-clause-own : goal.new-it-requires-clause-own
+new-it-requires-clause-own g c =
+    let task = c.args.space.now in
+    let ex = c.exercise-exercise.result.now in
+    let sheet = c.sheet-sheet.result.now in
+    let all = subst (AreOf task) (sym c.deref-5.ensures.value) c.in_ok-lists.ensures.space in
+    subst (AreFor ex sheet) (sym c.deref-8.ensures.value)
+    (are_for task ex sheet c.args.head.now c.exercise-exercise.ensures.value c.sheet-sheet.ensures
+    c.in_ok-floors.floors.items (c.in_ok-floors.ensures.space task all))
+
+pub new-it-requires-clause-stated : goal.new-it-requires-clause-stated
+new-it-requires-clause-stated g c =
+    let lines = map line_of c.args.lines.now in
+    subst (λ (fs : List ListFloor). AreStated c.sheet-sheet.result.now lines (map list_of fs))
+    (sym c.deref-8.ensures.value)
+    (floors_stated c.sheet-sheet.result.now lines c.in_ok-own.own.items c.in_ok-lists.lists.items
+    c.in_ok-floors.floors.items c.in_ok-own.ensures
+    (c.in_ok-lists.ensures.lists ∙ ap (map list_owned) c.deref.ensures.value)
+    (c.in_ok-floors.ensures.lists ∙ ap (map list_priced) c.deref-5.ensures.value))
+
+pub open-requires-clause-keys : goal.open-requires-clause-keys
+open-requires-clause-keys g c =
+    subst (λ (s : Sharp). AllByRecursion AreKeys s.lines) (sym c.new-it.ensures)
+    (lists_have_keys c.args.space.now.exercise (map line_of c.args.lines.now) c.requires.lists)
+
+pub open-requires-clause-due : goal.open-requires-clause-due
+open-requires-clause-due g c =
+    subst (λ (s : Sharp). AreDue s.case.sheet s.lines) (sym c.new-it.ensures)
+    (subst (λ (s : Sheet). AreDue s (map line_of c.args.lines.now)) (sym c.sheet-sheet.ensures) c.requires.front.due)
+
+pub open-requires-clause-small : goal.open-requires-clause-small
+open-requires-clause-small g c =
+    subst (λ (s : Sharp). HasSmallWeights s.case.sheet) (sym c.new-it.ensures) c.weights_are_small.ensures
+
+pub judge_claims-requires-clause-fresh : goal.judge_claims-requires-clause-fresh
+judge_claims-requires-clause-fresh g c =
+    subst (λ (k : Checking Asked Opening (List (List Cell))). k ≡ opened_at k.asked k.head [])
+    (sym c.in_ok-checker.ensures) refl
+
+pub judge_claims-requires-clause-opened : goal.judge_claims-requires-clause-opened
+judge_claims-requires-clause-opened g c =
+    let files = g.F.Shelf.files c.args.shelf.now in
+    let name = c.args.name.now in
+    let reader = c.args.reader in
+    let lines = map line_of c.args.lines.now in
+    subst (λ (k : Checking Asked Opening (List (List Cell))). IsOpened (IsOpeningText k.asked.exercise) files name k.head reader)
+    (sym c.in_ok-checker.ensures)
+    (subst (λ (s : Sharp). IsOpened (IsOpeningText s.case.exercise) files name (record { head = s.case.head; stated = Lists s.lines }) reader)
+    (sym c.new-it.ensures)
+    (subst (λ (e : Exercise). IsOpened (IsOpeningText e) files name (record { head = c.args.head.now; stated = Lists lines }) reader)
+    (sym c.exercise-exercise.ensures.value) c.requires.opened))
+
+pub returns-clause-answers : goal.returns-clause-answers
+returns-clause-answers g c =
+    let files = g.F.Shelf.files c.args.shelf.now in
+    let name = c.args.name.now in
+    let rose = Rose (g.F.Shelf.faults c.args.shelf.now) (g.F.Shelf.faults c.judge_claims.new.shelf) in
+    let result = c.judge_claims.result in
+    subst (λ (e : Exercise). Answers e c.args.space.now.sheet files name rose result) c.exercise-exercise.ensures.value
+    (subst (λ (s : Sheet). Answers c.exercise-exercise.result.now s files name rose result) c.sheet-sheet.ensures
+    (subst (λ (s : Sharp). Answers s.case.exercise s.case.sheet files name rose result) c.new-it.ensures
+    (subst (λ (k : Checking Asked Opening (List (List Cell))). Answers k.asked.exercise k.asked.sheet files name rose result)
+    c.in_ok-checker.ensures c.judge_claims.ensures.answers)))
+
+pub returns-clause-near : goal.returns-clause-near
+returns-clause-near g c =
+    let files = g.F.Shelf.files c.args.shelf.now in
+    let name = c.args.name.now in
+    let before = g.F.Shelf.given c.args.shelf.now in
+    let past = g.F.Shelf.given c.judge_claims.new.shelf + c.args.reader.offset in
+    let result = c.judge_claims.result in
+    let lines = map line_of c.args.lines.now in
+    let head = c.args.head.now in
+    subst
+    (λ (e : Exercise). IfOk result (ReadsNear (setting_subject record { exercise = e; sheet = c.args.space.now.sheet })
+    (record { head = head; stated = Lists lines }) files name before past))
+    c.exercise-exercise.ensures.value
+    (subst
+    (λ (s : Sheet). IfOk result (ReadsNear (setting_subject record { exercise = c.exercise-exercise.result.now; sheet = s })
+    (record { head = head; stated = Lists lines }) files name before past))
+    c.sheet-sheet.ensures
+    (subst
+    (λ (s : Sharp). IfOk result (ReadsNear (setting_subject record { exercise = s.case.exercise; sheet = s.case.sheet })
+    (record { head = s.case.head; stated = Lists s.lines }) files name before past))
+    c.new-it.ensures
+    (subst
+    (λ (k : Checking Asked Opening (List (List Cell))). IfOk result (ReadsNear (setting_subject k.asked) k.head files name before past))
+    c.in_ok-checker.ensures c.judge_claims.ensures.near)))
