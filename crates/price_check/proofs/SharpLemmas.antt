@@ -1,14 +1,18 @@
 -- What is known of a prefix with lists is known of it without them (`plain_open`, `plain_step`), its
 -- path goes on by the number of a column (`next_path`), and what is told by the lists of the floors
--- is told by those that the lines state (`stated_truth`).
-use Rattle.std.proofs.Common.{◌≡◌, ℕ, zero, suc, ◌+◌, ◌<◌, Bool, true, List, [], ◌∷◌, ◌++◌, Option, Some, None, length, map, nat_lt, option_map, reverse, slice_get, slice_index_or, refl, ap, sym, subst, ◌∙◌, arith}
-use Rattle.std.specs.Prelude.{◌↔◌, IsSomeAnd, IsTrue}
+-- is told by those that the lines state (`stated_truth`). A break is told without lists
+-- (`broken_truth`, `broken_first`).
+use Rattle.std.proofs.Common.{◌≡◌, ℕ, zero, suc, ◌+◌, ◌<◌, Bool, true, false, List, [], ◌∷◌, ◌++◌, Option, Some, None, length, map, nat_lt, option_map, reverse, slice_get, slice_index_or, refl, ap, sym, subst, ◌∙◌, arith}
+use Rattle.std.specs.Prelude.{◌↔◌, IsSomeAnd, IsTrue, if◌then◌else◌, is_none}
+use Rattle.std.specs.Option.{option_map_or}
 use Rattle.std.proofs.lemmas.Bool.{and_parts, ltb-true}
 use Rattle.cert_law.specs.Cases.{IsCase}
 use Rattle.cert_law.specs.Certificates.{is_open}
 use Rattle.cert_law.specs.Claims.{IsNoBetter, IsTrueOf}
 use Rattle.cert_law.specs.Known.{IsKnown, IsStepOf as IsPlainStepOf, column_after, is_step_of, tree_in as plain_tree}
 use Rattle.cert_law.specs.Prefixes.{IsSmall}
+use Rattle.cert_law.specs.Tails.{tail_of, used_floor}
+use Rattle.cert_law.specs.Writer.{first_claim, is_no_better, is_setting_of, least_break}
 use Rattle.cert_law.proofs.KnownLemmas.{known_small}
 use Rattle.cert_law.proofs.TailLemmas.{number_is}
 use Rattle.cert_text.specs.declared.answers.CertHead.{CertHead}
@@ -26,6 +30,7 @@ use Rattle.price_check.specs.Sharps.{IsSharpKnown, IsStepOf, Sharp, StandIn, Web
 use Rattle.price_check.specs.Statements.{IsStatedTrueOf}
 use Rattle.price_law.specs.Certificates.{IsSharpTrueOf}
 use Rattle.price_law.specs.PriceLists.{PriceList, case_in, numbers_from, path_of, sharp_floor}
+use Rattle.price_law.specs.Truths.{sharp_first_claim, sharp_unbroken}
 use Rattle.price_law.proofs.Ways.{numbers_from-append}
 use Rattle.price_lists.specs.Laws.{StatedFloorsAreOne}
 use Rattle.price_lists.specs.Stated.{AreStated}
@@ -145,3 +150,31 @@ module _ (ex : Exercise) (sheet : Sheet) (head : CertHead) (one : StatedFloorsAr
     λ yes. record { lists = lists; stated = stated; holds = truth.0 yes },
     λ it. truth.1 (told claim it),
   )
+
+  pub broken_truth : (claim : Claim) (rule : ℕ) (result : Bool) → claim ≡ Broken rule
+      → IsTrue result ↔ IsTrueOf ex sheet head None p claim → IsTrue result ↔ IsStatedTrueOf ex sheet head lines p claim
+  broken_truth claim rule result is truth =
+      subst (λ (k : Claim). IsTrue result ↔ IsStatedTrueOf ex sheet head lines p k) (sym is)
+      (stated_truth (Broken rule) result
+      (subst (λ (k : Claim). IsTrue result ↔ IsTrueOf ex sheet head None p k) is truth))
+
+-- a first claim that is of a break is the first one by whatever floors
+module _ (rule : ℕ) (others : Claim) where
+  not_unbroken : (none no_better : Bool) → (if none then NoChain else (if no_better then Floor else Open)) ≡ Broken rule → ⊥
+  not_unbroken true no_better e = cc
+  not_unbroken false true e = cc
+  not_unbroken false false e = cc
+
+  same_break : (is_setting none no_better : Bool) (least : Option ℕ)
+      → (if is_setting then TheScore
+      else option_map_or Broken least (if none then NoChain else (if no_better then Floor else Open))) ≡ Broken rule
+      → (if is_setting then TheScore else option_map_or Broken least others) ≡ Broken rule
+  same_break true none no_better least e = cc
+  same_break false none no_better None e = absurd (not_unbroken none no_better e)
+  same_break false none no_better (Some own) e = e
+
+pub broken_first : (ex : Exercise) (sheet : Sheet) (head : CertHead) (lists : List PriceList) (p : List (List Cell)) (rule : ℕ)
+    → first_claim ex sheet head None p ≡ Broken rule → sharp_first_claim ex sheet head lists p ≡ Broken rule
+broken_first ex sheet head lists p rule e =
+    same_break rule (sharp_unbroken ex sheet head lists p) (is_setting_of head p) (is_none (tail_of ex sheet None p))
+    (option_map_or (is_no_better head p) (used_floor ex sheet None p) false) (least_break ex p) e
