@@ -13,7 +13,7 @@ use open_ends::Keeps;
 use penalty_sheet::Sheet;
 use price_rounds::Tuned;
 use price_text::{Keys, PriceLine, put_lists};
-use priced_floors::Prices;
+use priced_floors::{PITCHES, Prices};
 use std::alloc::Global;
 
 /// The most bytes that a head and its lists may have.
@@ -113,7 +113,37 @@ fn keeps_line(keeps: Keeps) -> PriceLine {
     }
 }
 
-/// The lines of a plain list, and of so many lists with prices behind it.
+/// Whether two lists charge the same.
+fn are_same(one: &[Prices], other: &[Prices]) -> bool {
+    if one.len() != other.len() {
+        return false;
+    }
+    for k in 0..one.len() {
+        for place in 0..PITCHES {
+            if one[k].strikes[place] != other[k].strikes[place] {
+                return false;
+            }
+        }
+    }
+    true
+}
+
+/// Whether a list charges the same as one before it: stated once more it would tell nothing.
+fn is_repeated(tuned: &Tuned, k: usize) -> bool {
+    let Some(own) = tuned.lists.get(k) else {
+        return false;
+    };
+    for j in 0..k {
+        if let Some(other) = tuned.lists.get(j) {
+            if are_same(own.as_slice(), other.as_slice()) {
+                return true;
+            }
+        }
+    }
+    false
+}
+
+/// The lines of a plain list, and of so many lists with prices behind it, but for repeated ones.
 fn lines_of_lists(
     alloc: Global,
     ex: &Exercise,
@@ -125,6 +155,9 @@ fn lines_of_lists(
 {
     let mut stating = Stating::plain(alloc, ex, sheet, tuned.keeps)?;
     for k in 0..count.min(tuned.lists.len()) {
+        if is_repeated(tuned, k) {
+            continue;
+        }
         put_list(&mut stating, ex, sheet, tuned, tuned.lists[k].as_slice())?;
     }
     Ok(stating.done(ex, sheet))
@@ -142,7 +175,7 @@ pub fn text_behind(alloc: Global, front: &str, lines: &[PriceLine]) -> Result<St
 }
 
 /// The lines of a plain list, and of as many lists with prices as there is room for behind the text
-/// of a head. None where there is no room for the plain one.
+/// of a head, each stated once. None where there is no room for the plain one.
 pub fn lines_within(
     alloc: Global,
     ex: &Exercise,
