@@ -5,7 +5,7 @@ use Rattle.std.specs.Option.{option_map_or}
 use Rattle.std.specs.Str.{bytes_eq}
 use Rattle.clap.specs.Words.{App, Kinds, Row, Text, fault_of, first_of, matches_of}
 use Rattle.cert_text.specs.declared.answers.Form.{Form}
-use Rattle.cert_text.specs.declared.answers.Form.TheVariants.{First, Second}
+use Rattle.cert_text.specs.declared.answers.Form.TheVariants.{First, Second, Third}
 use Rattle.fux_grid.specs.declared.exercise.Head.{Head}
 use Rattle.fux_pitch.specs.Pitch.{key_of}
 use Rattle.fux_text.specs.Names.{mode_named, pitch_named}
@@ -158,11 +158,12 @@ search_in rows = do
   before ← before_in (first_of (codes "nth") rows)
   Some (record { budget = budget; before = before })
 
--- the form: 1 or 2, and the second where none is given
+-- the form: 1, 2 or 3, and the second where none is given
 abbrev pub form_in : Option Text → Option Form
 form_in None = Some Second
 form_in (Some text) =
-    if bytes_eq text (codes "1") then Some First else (if bytes_eq text (codes "2") then Some Second else None)
+    if bytes_eq text (codes "1") then Some First
+    else (if bytes_eq text (codes "2") then Some Second else (if bytes_eq text (codes "3") then Some Third else None))
 
 -- a flag is given
 abbrev pub is_set : Text → List Row → Bool

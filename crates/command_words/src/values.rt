@@ -118,6 +118,7 @@ fn form_of(word: Option<&str>) -> Option<Form>
         None => Some(Form::Second),
         Some("1") => Some(Form::First),
         Some("2") => Some(Form::Second),
+        Some("3") => Some(Form::Third),
         Some(_) => None,
     }
 }

@@ -137,7 +137,7 @@ module _ (task : Task) (files : Files) (rose : Type 0) (cut : ℕ → Type 0) (o
   ran_missing_within (Ok verdict) ran bytes have name one missing room =
       absurd (written_is_there task files name bytes old new verdict have ran.ended one missing)
   ran_missing_within (Err (Refused text)) ran bytes have name one missing room =
-      inr (ran.status, λ ready. refused_unready task files bytes text have ran.ended.1 ready)
+      inr (ran.status, λ ready. refused_unready task files bytes text name have ran.ended.1 one missing ready)
   ran_missing_within (Err Unwritable) ran bytes have name one missing room =
       absurd (part_is_there task files name bytes cut old new have ran.ended one missing)
   ran_missing_within (Err (Unreadable file)) ran bytes have name one missing room = inl ran.status

@@ -1,7 +1,9 @@
 -- What the first leaf of least value leads to, as a score (`score_at`). What is made of an outcome
--- is so (`answered_exactly`, and by sharper floors `answered_sharply`), and what is written of it
+-- is so (`answered_exactly`, and by sharper floors `answered_sharply`), which is what a form of a
+-- certificate asks for (`first_finds`, `second_finds`, `third_finds`), and what is written of it
 -- tells it (`told_exactly`, `told_sharply`).
 use Rattle.std.proofs.Common.{◌≡◌, ℕ, ◌<◌, List, Result, Ok, Err, IfOk, true, length, refl, sym, ◌∙◌}
+use Rattle.cert_text.specs.declared.answers.Form.TheVariants.{First, Second, Third}
 use Rattle.fux_grid.specs.declared.cell.Cell.{Cell}
 use Rattle.fux_grid.specs.declared.exercise.Exercise.{Exercise}
 use Rattle.fux_grid.specs.Exercises.{HasCantus, IsValid, columns_in}
@@ -24,7 +26,7 @@ use Rattle.tree_search.specs.declared.outcome.Outcome.TheVariants as outcome
 use Rattle.works.specs.declared.searching.Found.{Found}
 use Rattle.works.specs.declared.searching.Found.TheVariants.{Best, Nothing, Spent}
 use Rattle.works.specs.Composed.{Tells, TellsSharply, found_output}
-use Rattle.works.specs.Searched.{IsFirstPath, IsFound, IsFoundBy, IsFoundSharply, IsRaised, IsScoreAt, IsSharpBound}
+use Rattle.works.specs.Searched.{IsFirstPath, IsFound, IsFoundBy, IsFoundFor, IsFoundSharply, IsRaised, IsScoreAt, IsSharpBound}
 
 module _ (ex : Exercise) (sheet : Sheet) (path : List ℕ) (value : ℕ)
     (first : IsFirstLeast (live_at ex sheet) (columns_in ex) path value) where
@@ -131,6 +133,23 @@ module _ (space : Task) (budget : ℕ) where
       → IfOk result (IsFound space.exercise space.sheet budget)
   answered_exactly outcome (Err fault) exact is = tt
   answered_exactly outcome (Ok found) exact is = found_exactly outcome found exact is
+
+-- what each search found is what a form asks for
+module _ (ex : Exercise) (sheet : Sheet) (budget : ℕ) where
+  pub first_finds : (found : Found) → IsFound ex sheet budget found → IsFoundFor First ex sheet budget found
+  first_finds (Best score penalty) is = is
+  first_finds Nothing is = is
+  first_finds (Spent bound) is = is
+
+  pub second_finds : (found : Found) → IsFound ex sheet budget found → IsFoundFor Second ex sheet budget found
+  second_finds (Best score penalty) is = is
+  second_finds Nothing is = is
+  second_finds (Spent bound) is = is
+
+  pub third_finds : (found : Found) → IsFoundSharply ex sheet budget found → IsFoundFor Third ex sheet budget found
+  third_finds (Best score penalty) is = is
+  third_finds Nothing is = is
+  third_finds (Spent bound) is = is
 
 -- what is written of what was found tells it
 module _ (ex : Exercise) (sheet : Sheet) where

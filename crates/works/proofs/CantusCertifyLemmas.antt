@@ -91,6 +91,7 @@ module _ (plan : CantusPlan) (budget : ℕ) where
   of_best cantus penalty best fewest most below (Err (refusal.TooWide place count)) made = absurd made
   of_best cantus penalty best fewest most below (Err (refusal.Text kind line column)) made = absurd made
   of_best cantus penalty best fewest most below (Err refusal.NoSetting) made = absurd made
+  of_best cantus penalty best fewest most below (Err refusal.LargeGraph) made = absurd made
   of_best cantus penalty best fewest most below (Err (refusal.Lesson kind line column)) made = absurd made
   of_best cantus penalty best fewest most below (Err (refusal.List line)) made = absurd made
   of_best cantus penalty best fewest most below (Err (refusal.Canon line)) made = absurd made
@@ -119,6 +120,7 @@ module _ (plan : CantusPlan) (budget : ℕ) where
   of_none none (Err (refusal.TooWide place count)) made = absurd made
   of_none none (Err (refusal.Text kind line column)) made = absurd made
   of_none none (Err refusal.NoSetting) made = absurd made
+  of_none none (Err refusal.LargeGraph) made = absurd made
   of_none none (Err (refusal.Lesson kind line column)) made = absurd made
   of_none none (Err (refusal.List line)) made = absurd made
   of_none none (Err (refusal.Canon line)) made = absurd made

@@ -12,7 +12,7 @@ use Rattle.cantus_space.specs.declared.plan.CantusPlan.{CantusPlan}
 use Rattle.cantus_text.specs.Heads as cantus
 use Rattle.cantus_text.specs.Heads.{IsSaid}
 use Rattle.cantus_writer.proofs.Fits as cantus_fits
-use Rattle.cert_check.specs.Settings.{AreStated, form_of}
+use Rattle.cert_check.specs.Settings.{AreStated, Lists, Numbers, form_of, ground_text}
 use Rattle.cert_law.specs.Entries.{AreTrueEntries}
 use Rattle.cert_law.specs.Rests.{stated_in}
 use Rattle.cert_law.specs.Writer.{claims_of, head_text, stated_text}
@@ -20,7 +20,7 @@ use Rattle.cert_text.proofs.HeadLaws.{best-heads_written}
 use Rattle.cert_text.specs.declared.answers.CertHead.{CertHead}
 use Rattle.cert_text.specs.declared.answers.CertHead.TheVariants.{Best, Nothing}
 use Rattle.cert_text.specs.declared.answers.Form.{Form}
-use Rattle.cert_text.specs.declared.answers.Form.TheVariants.{First, Second}
+use Rattle.cert_text.specs.declared.answers.Form.TheVariants.{First, Second, Third}
 use Rattle.cert_text.specs.HeadTexts.{Heads}
 use Rattle.cert_text.specs.Lines.{claim_line}
 use Rattle.cert_text.specs.Potentials.{IsPotential}
@@ -36,7 +36,8 @@ use Rattle.fux_text.specs.ReadBack.{sing_lines}
 use Rattle.penalty_sheet.specs.declared.sheet.Sheet.{Sheet}
 use Rattle.rule_law.specs.Prefixes.{IsSetting}
 use Rattle.works.specs.CantusCertified as certified
-use Rattle.works.specs.Certified.{IsAcceptable, IsCertificateOf}
+use Rattle.price_writer.specs.Certificates.{IsPricedCertificateOf}
+use Rattle.works.specs.Certified.{IsAcceptable, IsCertificateByNumbers, IsCertificateOf}
 
 -- ---- of settings
 
@@ -52,67 +53,114 @@ setting_of ex other score same setting cantus complete = record {
   follows = setting.prefix.follows;
 }
 
-module _ (ex : Exercise) (sheet : Sheet) (form : Form) (valid : IsValid ex) (unmixed : ex.mixed ≡ None) where
-  form_of-stated : (f : Form) → form_of (stated_in f ex sheet) ≡ f
-  form_of-stated First = refl
-  form_of-stated Second = refl
+module _ (ex : Exercise) (sheet : Sheet) (valid : IsValid ex) (unmixed : ex.mixed ≡ None) where
+  -- the text of a head of a form is read as that head
+  abbrev IsReadBack : Form → CertHead → Type 0
+  IsReadBack form head = Heads ex form (head_text ex form head) head (length (head_text ex form head))
 
-  entries_stated : (f : Form) → IfSome (stated_in f ex sheet) (AreTrueEntries ex sheet)
-      → IfSome (stated_in f ex sheet) (AllByRecursion IsPotential) → AreStated ex (stated_in f ex sheet)
-  entries_stated First are small = tt
-  entries_stated Second are small = (are.whole, small)
-
-  -- what is written is the text of a certificate, where its head's text is read as that head
-  head_acceptable : (head : CertHead) (bytes : List ℕ)
-      → Heads ex form (head_text ex form head) head (length (head_text ex form head))
-      → IsCertificateOf ex sheet form head bytes → IsAcceptable ex sheet head bytes
-  head_acceptable head bytes heads is short = record {
-    stated = stated_in form ex sheet;
-    is = record {
-      claims = claims_of ex sheet head;
-      text = record {
-        front = head_text ex form head ++ stated_text (stated_in form ex sheet);
-        heads = record {
-          front = head_text ex form head;
-          heads = subst
-              (λ (f : Form). Heads ex f (head_text ex form head) head (length (head_text ex form head)))
-              (sym (form_of-stated form)) heads;
-          fits = entries_stated form is.valid.entries is.small;
-          is = refl;
-        };
-        fits = claims_of-fit (record { exercise = ex; sheet = sheet; head = head }) unmixed;
-        is = is.written
-            ∙ sym (append_assoc (head_text ex form head) (stated_text (stated_in form ex sheet))
-            (flat_map claim_line (claims_of ex sheet head)));
-      };
-      short = short;
-      valid = record {
-        sound = record { head = is.valid.sound; entries = is.valid.entries };
-        certified = is.valid.certified;
-      };
-    };
-  }
-
-  pub none_acceptable : (bytes : List ℕ) → IsCertificateOf ex sheet form Nothing bytes → IsAcceptable ex sheet Nothing bytes
-  none_acceptable bytes is =
+  no_setting_read : (form : Form) → IsReadBack form Nothing
+  no_setting_read form =
       let text = nothing_text form in
-      head_acceptable Nothing bytes
-      (record { within = omega arith; text = take_all (length text) text (omega arith); setting = tt }) is
+      record { within = omega arith; text = take_all (length text) text (omega arith); setting = tt }
 
-  pub setting_acceptable : (score : Grid) (penalty : ℕ) (bytes : List ℕ) → penalty < 2 ^ 64
-      → IsLawful ex score.columns → HasCantus ex score.columns → IsComplete ex score
-      → IsCertificateOf ex sheet form (Best penalty score) bytes → IsAcceptable ex sheet (Best penalty score) bytes
-  setting_acceptable score penalty bytes below lawful cantus complete is =
+  setting_read : (form : Form) (score : Grid) (penalty : ℕ) → penalty < 2 ^ 64 → IsLawful ex score.columns
+      → HasCantus ex score.columns → IsComplete ex score → IsReadBack form (Best penalty score)
+  setting_read form score penalty below lawful cantus complete =
       let text = best_text form penalty (sing_lines ex score.columns) in
-      head_acceptable (Best penalty score) bytes
-      ((best-heads_written ex form text penalty score (length text) valid).1 (
+      (best-heads_written ex form text penalty score (length text) valid).1 (
         omega arith,
         below,
         record {
           setting = setting_of ex ex score refl lawful.setting cantus complete;
           written = take_all (length text) text (omega arith);
         },
-      )) is
+      )
+
+  entries_stated : (f : Form) → IfSome (stated_in f ex sheet) (AreTrueEntries ex sheet)
+      → IfSome (stated_in f ex sheet) (AllByRecursion IsPotential) → AreStated ex (Numbers (stated_in f ex sheet))
+  entries_stated First are small = tt
+  entries_stated Second are small = (are.whole, small)
+  entries_stated Third are small = tt
+
+  -- what is written by numbers is the text of a certificate, where its head's text is read as that head
+  numbers_acceptable : (form : Form) (head : CertHead) (bytes : List ℕ) → form_of (Numbers (stated_in form ex sheet)) ≡ form
+      → IsReadBack form head → IsCertificateByNumbers ex sheet form head bytes → IsAcceptable ex sheet form head bytes
+  numbers_acceptable form head bytes stating heads is short = record {
+    text = record {
+      stated = Numbers (stated_in form ex sheet);
+      is = record {
+        claims = claims_of ex sheet head;
+        text = record {
+          front = head_text ex form head ++ stated_text (stated_in form ex sheet);
+          heads = record {
+            front = head_text ex form head;
+            heads = subst
+                (λ (f : Form). Heads ex f (head_text ex form head) head (length (head_text ex form head)))
+                (sym stating) heads;
+            fits = entries_stated form is.valid.entries is.small;
+            is = refl;
+            short = tt;
+          };
+          fits = claims_of-fit (record { exercise = ex; sheet = sheet; head = head }) unmixed;
+          is = is.written
+              ∙ sym (append_assoc (head_text ex form head) (stated_text (stated_in form ex sheet))
+              (flat_map claim_line (claims_of ex sheet head)));
+        };
+        short = short;
+        valid = record {
+          sound = record { head = is.valid.sound; stated = is.valid.entries };
+          certified = is.valid.certified;
+        };
+      };
+    };
+    stating = stating;
+  }
+
+  -- and so is what is written by prices
+  prices_acceptable : (head : CertHead) (bytes : List ℕ) → IsReadBack Third head
+      → IsPricedCertificateOf ex sheet head bytes → IsAcceptable ex sheet Third head bytes
+  prices_acceptable head bytes heads is short = record {
+    text = record {
+      stated = Lists is.lines;
+      is = record {
+        claims = is.claims;
+        text = record {
+          front = head_text ex Third head ++ ground_text (Lists is.lines);
+          heads = record {
+            front = head_text ex Third head;
+            heads = heads;
+            fits = is.fit.stated.lists;
+            is = refl;
+            short = is.fit.fits;
+          };
+          fits = is.have_lines;
+          is = is.written;
+        };
+        short = short;
+        valid = record {
+          sound = record { head = is.sound; stated = is.fit.stated.due };
+          certified = is.certified;
+        };
+      };
+    };
+    stating = refl;
+  }
+
+  head_acceptable : (form : Form) (head : CertHead) (bytes : List ℕ) → IsReadBack form head
+      → IsCertificateOf ex sheet form head bytes → IsAcceptable ex sheet form head bytes
+  head_acceptable First head bytes heads is = numbers_acceptable First head bytes refl heads is
+  head_acceptable Second head bytes heads is = numbers_acceptable Second head bytes refl heads is
+  head_acceptable Third head bytes heads is = prices_acceptable head bytes heads is
+
+  pub none_acceptable : (form : Form) (bytes : List ℕ) → IsCertificateOf ex sheet form Nothing bytes
+      → IsAcceptable ex sheet form Nothing bytes
+  none_acceptable form bytes is = head_acceptable form Nothing bytes (no_setting_read form) is
+
+  pub setting_acceptable : (form : Form) (score : Grid) (penalty : ℕ) (bytes : List ℕ) → penalty < 2 ^ 64
+      → IsLawful ex score.columns → HasCantus ex score.columns → IsComplete ex score
+      → IsCertificateOf ex sheet form (Best penalty score) bytes → IsAcceptable ex sheet form (Best penalty score) bytes
+  setting_acceptable form score penalty bytes below lawful cantus complete is =
+      head_acceptable form (Best penalty score) bytes (setting_read form score penalty below lawful cantus complete) is
 
 -- ---- of a cantus
 

@@ -3,7 +3,7 @@
 use Rattle.std.proofs.Common.{◌≡◌, ◌⊎◌, ℕ, zero, suc, ◌<◌, List, [], ◌∷◌, Contains, Option, Result, Ok, Err, get_or, inl, inr, refl, ap, sym, subst, ◌∙◌, arith}
 use Rattle.cert_file.specs.Readings.{MayBe}
 use Rattle.cert_text.specs.declared.answers.CertHead.{CertHead}
-use Rattle.cert_check.specs.Settings.{IsVerdictOn}
+use Rattle.cert_check.specs.Settings.{HasPricedHead, IsVerdictOn}
 use Rattle.cert_check.proofs.RefusedLemmas.{one_verdict}
 use Rattle.cert_file.proofs.TextLemmas.{such_of}
 use Rattle.cert_check.specs.Settings as cert
@@ -27,7 +27,7 @@ use Rattle.cantus_check.specs.Answers.{IsVerdictOn as IsCantusVerdict}
 use Rattle.command_words.specs.declared.command.Wanted.{Wanted}
 use Rattle.works.specs.CantusChecked.{ChecksCantusBy}
 use Rattle.works.specs.Invented.{plan_of}
-use Rattle.works.specs.Checked.{AnswersWithin, IsAccepted, IsChecked, IsOnlyVerdict, Judges, told}
+use Rattle.works.specs.Checked.{AnswersWithin, IsAccepted, IsChecked, IsOnlyVerdict, Judges, RefusesChecking, told}
 use Rattle.class_marker.specs.Lists.{listed_names}
 use Rattle.class_marker.specs.Markings.{IsContent}
 use Rattle.fux_text.proofs.ReadTexts.{texts-faultless}
@@ -39,7 +39,7 @@ use Rattle.works.specs.Complaints.{name_text}
 use Rattle.works.specs.Endings.{IsCut, IsMade, IsRefused, IsUnread, IsWritten, SaysWithin, work_output}
 use Rattle.works.specs.declared.refusal.Refusal.{Refusal}
 use Rattle.works.specs.declared.refusal.Refusal.TheVariants as refusal
-use Rattle.works.specs.Searched.{IsNarrow, RefusesWidth}
+use Rattle.works.specs.Searched.{IsNarrow}
 use Rattle.works.specs.Sheets.{RefusesSheet, prices_in_use, sheet_said}
 use Rattle.works.specs.Texts.{RefusesText, Work}
 use Rattle.works.specs.Works.{AllHave, AreContents, AreRead, ChecksText, Files, IsClassOf, IsReadyFor, IsReadyText, Makes, Works}
@@ -180,18 +180,23 @@ part_is_there task files name bytes cut old new have on one missing =
 
 -- ---- files that are refused keep a command from reading on
 
-not_refused_width : (ex : Exercise) (refusal : Refusal) → RefusesWidth ex refusal → IsNarrow ex → ⊥
-not_refused_width ex (refusal.TooWide place count) wide narrow = omega (arith, narrow wide.column wide.within, wide.width, wide.wide)
-not_refused_width ex (refusal.Text kind line column) wide narrow = wide
-not_refused_width ex refusal.NoSetting wide narrow = wide
-not_refused_width ex (refusal.Lesson kind line column) wide narrow = wide
-not_refused_width ex (refusal.List line) wide narrow = wide
-not_refused_width ex (refusal.Canon line) wide narrow = wide
-not_refused_width ex (refusal.With voice) wide narrow = wide
-not_refused_width ex refusal.LongCertificate wide narrow = wide
-not_refused_width ex (refusal.Sheet fault) wide narrow = wide
-not_refused_width ex (refusal.Midi fault) wide narrow = wide
-not_refused_width ex (refusal.Join fault) wide narrow = wide
+-- a refused certificate is there, or a menu is too wide
+not_refused_check : (files : Files) (certificate : List ℕ) (ex : Exercise) (refusal : Refusal)
+    → RefusesChecking files certificate ex refusal → IsNarrow ex → IsMissing files certificate → ⊥
+not_refused_check files certificate ex refusal.LargeGraph large narrow missing =
+    may_be_there files certificate (HasPricedHead ex) large.1 missing
+not_refused_check files certificate ex (refusal.TooWide place count) wide narrow missing =
+    omega (arith, narrow wide.column wide.within, wide.width, wide.wide)
+not_refused_check files certificate ex (refusal.Text kind line column) wide narrow missing = wide
+not_refused_check files certificate ex refusal.NoSetting wide narrow missing = wide
+not_refused_check files certificate ex (refusal.Lesson kind line column) wide narrow missing = wide
+not_refused_check files certificate ex (refusal.List line) wide narrow missing = wide
+not_refused_check files certificate ex (refusal.Canon line) wide narrow missing = wide
+not_refused_check files certificate ex (refusal.With voice) wide narrow missing = wide
+not_refused_check files certificate ex refusal.LongCertificate wide narrow missing = wide
+not_refused_check files certificate ex (refusal.Sheet fault) wide narrow missing = wide
+not_refused_check files certificate ex (refusal.Midi fault) wide narrow missing = wide
+not_refused_check files certificate ex (refusal.Join fault) wide narrow missing = wide
 
 not_refused_text : (bytes : List ℕ) (ex : Exercise) (refusal : Refusal) → IsTextOf bytes ex → RefusesText bytes refusal → ⊥
 not_refused_text bytes ex (refusal.Text kind line column) is refused = texts-faultless bytes ex kind line column is refused
@@ -202,6 +207,7 @@ not_refused_text bytes ex (refusal.List line) is refused = refused
 not_refused_text bytes ex (refusal.Canon line) is refused = refused
 not_refused_text bytes ex (refusal.With voice) is refused = refused
 not_refused_text bytes ex refusal.LongCertificate is refused = refused
+not_refused_text bytes ex refusal.LargeGraph is refused = refused
 not_refused_text bytes ex (refusal.Sheet fault) is refused = refused
 not_refused_text bytes ex (refusal.Midi fault) is refused = refused
 not_refused_text bytes ex (refusal.Join fault) is refused = refused
@@ -217,6 +223,7 @@ not_refused_sheet sheets sheet (refusal.List line) said refused = refused
 not_refused_sheet sheets sheet (refusal.Canon line) said refused = refused
 not_refused_sheet sheets sheet (refusal.With voice) said refused = refused
 not_refused_sheet sheets sheet refusal.LongCertificate said refused = refused
+not_refused_sheet sheets sheet refusal.LargeGraph said refused = refused
 not_refused_sheet sheets sheet (refusal.Midi fault) said refused = refused
 not_refused_sheet sheets sheet (refusal.Join fault) said refused = refused
 
@@ -230,57 +237,63 @@ not_refused_list text names (refusal.Lesson kind line column) listed refused = r
 not_refused_list text names (refusal.Canon line) listed refused = refused
 not_refused_list text names (refusal.With voice) listed refused = refused
 not_refused_list text names refusal.LongCertificate listed refused = refused
+not_refused_list text names refusal.LargeGraph listed refused = refused
 not_refused_list text names (refusal.Sheet fault) listed refused = refused
 not_refused_list text names (refusal.Midi fault) listed refused = refused
 not_refused_list text names (refusal.Join fault) listed refused = refused
 
 check_not_refused : (files : Files) (certificate : List ℕ) (sheets : List (List ℕ)) (text : List ℕ) (refusal : Refusal)
-    → ChecksText files certificate sheets text (Err refusal) → IsReadyText sheets text → ⊥
-check_not_refused files certificate sheets text refusal (inl on) ready =
+    → ChecksText files certificate sheets text (Err refusal) → IsReadyText sheets text → IsMissing files certificate → ⊥
+check_not_refused files certificate sheets text refusal (inl on) ready missing =
     elim on.made [
       | inl over ↦
           let same = ready.is.only on.exercise on.text.text in
-          not_refused_width on.exercise refusal over.made (rw same at ready.narrow)
+          not_refused_check files certificate on.exercise refusal over.made (rw same at ready.narrow) missing
       | inr none ↦ not_refused_sheet sheets ready.sheet none.refusal ready.said none.cause
     ]
-check_not_refused files certificate sheets text refusal (inr none) ready =
+check_not_refused files certificate sheets text refusal (inr none) ready missing =
     not_refused_text text ready.exercise none.refusal ready.is.text none.cause
 
-not_refused : (task : Task) (files : Files) (bytes : List (List ℕ)) (refusal : Refusal)
-    → Makes task files bytes (Err refusal) → IsReadyFor task bytes → ⊥
-not_refused (check ex certificate sheet) files (text ∷ sheets) refusal made ready =
+not_refused : (task : Task) (files : Files) (bytes : List (List ℕ)) (refusal : Refusal) (name : List ℕ)
+    → Makes task files bytes (Err refusal) → Contains (names_within task bytes) name → IsMissing files name
+    → IsReadyFor task bytes → ⊥
+not_refused (check ex certificate sheet) files (text ∷ sheets) refusal name made one missing ready =
     check_not_refused files certificate sheets text refusal made ready
-not_refused (check ex certificate sheet) files [] refusal made ready = ready
-not_refused (class_report list) files (text ∷ []) refusal made ready =
+    (rw (the_one certificate name one.0 one.1 one.2) missing)
+not_refused (check ex certificate sheet) files [] refusal name made one missing ready = ready
+not_refused (class_report list) files (text ∷ []) refusal name made one missing ready =
     not_refused_list text ready.names refusal ready.listed made
-not_refused (class_report list) files [] refusal made ready = ready
-not_refused (class_report list) files (text ∷ more ∷ bytes) refusal made ready = ready
-not_refused (on_exercise ex sheet job) files bytes refusal made ready = ready
-not_refused (on_mixed ex sheet named job) files bytes refusal made ready = ready
-not_refused (certify ex sheet budget form) files bytes refusal made ready = ready
-not_refused (explain file subject) files bytes refusal made ready = ready
-not_refused (fromsmf file head) files bytes refusal made ready = ready
-not_refused (join_smf lesson file manner) files bytes refusal made ready = ready
-not_refused (drill number by_sharper) files bytes refusal made ready = ready
-not_refused (mark_answer file lesson) files bytes refusal made ready = ready
-not_refused (class_files names) files bytes refusal made ready = ready
-not_refused (whole_class list lesson kind) files bytes refusal made ready = ready
-not_refused (whole_files names lesson kind) files bytes refusal made ready = ready
-not_refused (find_canon file sheet search) files bytes refusal made ready = ready
-not_refused (find_cantus wanted sheet search) files bytes refusal made ready = ready
-not_refused (certify_cantus wanted sheet budget) files bytes refusal made ready = ready
-not_refused (check_cantus wanted certificate sheet) files sheets refusal made ready =
+not_refused (class_report list) files [] refusal name made one missing ready = ready
+not_refused (class_report list) files (text ∷ more ∷ bytes) refusal name made one missing ready = ready
+not_refused (on_exercise ex sheet job) files bytes refusal name made one missing ready = ready
+not_refused (on_mixed ex sheet named job) files bytes refusal name made one missing ready = ready
+not_refused (certify ex sheet budget form) files bytes refusal name made one missing ready = ready
+not_refused (explain file subject) files bytes refusal name made one missing ready = ready
+not_refused (fromsmf file head) files bytes refusal name made one missing ready = ready
+not_refused (join_smf lesson file manner) files bytes refusal name made one missing ready = ready
+not_refused (drill number by_sharper) files bytes refusal name made one missing ready = ready
+not_refused (mark_answer file lesson) files bytes refusal name made one missing ready = ready
+not_refused (class_files names) files bytes refusal name made one missing ready = ready
+not_refused (whole_class list lesson kind) files bytes refusal name made one missing ready = ready
+not_refused (whole_files names lesson kind) files bytes refusal name made one missing ready = ready
+not_refused (find_canon file sheet search) files bytes refusal name made one missing ready = ready
+not_refused (find_cantus wanted sheet search) files bytes refusal name made one missing ready = ready
+not_refused (certify_cantus wanted sheet budget) files bytes refusal name made one missing ready = ready
+not_refused (check_cantus wanted certificate sheet) files sheets refusal name made one missing ready =
     elim made [
       | inl over ↦ absurd over.made
       | inr none ↦ not_refused_sheet sheets ready.sheet none.refusal ready.said none.cause
     ]
 
-pub refused_unready : (task : Task) (files : Files) (bytes : List (List ℕ)) (text : List ℕ)
-    → AllHave files (names_in task) bytes → Works task files (IsRefused (name_in task) text) → IsReadyFor task bytes → ⊥
-refused_unready task files bytes text have on ready =
+-- where a file that a command reads within its work is missing, it refuses only files that keep it
+-- from reading on
+pub refused_unready : (task : Task) (files : Files) (bytes : List (List ℕ)) (text name : List ℕ)
+    → AllHave files (names_in task) bytes → Works task files (IsRefused (name_in task) text)
+    → Contains (names_within task bytes) name → IsMissing files name → IsReadyFor task bytes → ⊥
+refused_unready task files bytes text name have on one missing ready =
     let same = only_bytes files (names_in task) bytes on.bytes have on.had in
-    not_refused task files bytes on.holds.refusal
-    (rw same at (subst (Makes task files on.bytes) on.holds.is on.made)) ready
+    not_refused task files bytes on.holds.refusal name
+    (rw same at (subst (Makes task files on.bytes) on.holds.is on.made)) one missing ready
 
 -- ---- what is made of the files
 

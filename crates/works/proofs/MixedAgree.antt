@@ -107,6 +107,7 @@ naming_of ex named (refusal.Lesson kind line column) h = absurd h
 naming_of ex named (refusal.List line) h = absurd h
 naming_of ex named (refusal.Canon line) h = absurd h
 naming_of ex named refusal.LongCertificate h = absurd h
+naming_of ex named refusal.LargeGraph h = absurd h
 naming_of ex named (refusal.Sheet fault) h = absurd h
 naming_of ex named (refusal.Midi fault) h = absurd h
 naming_of ex named (refusal.Join fault) h = absurd h

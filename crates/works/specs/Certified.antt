@@ -2,7 +2,7 @@
 use Rattle.std.specs.Prelude.{◌≡◌, ◌≢◌, ℕ, ◌<◌, ◌≤◌, List, Option, Ok, Err, IfSome, length}
 use Rattle.std.specs.Borrow.{Bor}
 use Rattle.std.specs.List.{AllByRecursion}
-use Rattle.cert_check.specs.Settings.{IsCertificateText}
+use Rattle.cert_check.specs.Settings.{IsCertificateText, form_of}
 use Rattle.cert_file.specs.Readings.{longest_certificate}
 use Rattle.cert_law.specs.Certificates.{IsCertificate}
 use Rattle.cert_law.specs.Rests.{stated_in}
@@ -12,51 +12,63 @@ use Rattle.floor_tables.specs.Tables.{Task}
 use Rattle.cert_text.specs.declared.answers.CertHead.{CertHead}
 use Rattle.cert_text.specs.declared.answers.CertHead.TheVariants.{Best, Nothing}
 use Rattle.cert_text.specs.declared.answers.Form.{Form}
+use Rattle.cert_text.specs.declared.answers.Form.TheVariants.{First, Second, Third}
 use Rattle.cert_text.specs.Potentials.{IsPotential}
 use Rattle.fux_grid.specs.declared.exercise.Exercise.{Exercise}
 use Rattle.fux_grid.specs.Grid.{Grid}
 use Rattle.penalty_sheet.specs.declared.sheet.Sheet.{Sheet}
-use Rattle.species_space.specs.Loads.{IsBestWithin, IsLeastOver, IsNothingWithin}
+use Rattle.price_writer.specs.Certificates.{IsPricedCertificateOf}
 use Rattle.works.specs.declared.refusal.Refusal.{Refusal}
-use Rattle.works.specs.declared.refusal.Refusal.TheVariants.{LongCertificate}
+use Rattle.works.specs.declared.refusal.Refusal.TheVariants.{LargeGraph, LongCertificate}
 use Rattle.works.specs.declared.work.Output.{Output}
 use Rattle.works.specs.declared.work.Verdict.{Verdict}
 use Rattle.works.specs.declared.work.Verdict.TheVariants.{Spent}
 use Rattle.works.specs.Composed.{TellsAs}
-use Rattle.works.specs.Searched.{IsBestFound, IsNarrow, RefusesWidth}
+use Rattle.works.specs.Searched.{IsBestFor, IsBestFound, IsBoundFor, IsNarrow, IsNothingFor, RefusesWidth}
 use Rattle.works.specs.Texts.{Work}
 
--- the bytes are the certificate of a form that is written for a head, which is valid; each number
--- that it states is below 2^32
-pub record IsCertificateOf (ex : Exercise) (sheet : Sheet) (form : Form) (head : CertHead) (bytes : List ℕ) : Type 0
-  where
-    pub valid : IsCertificate ex sheet head (stated_in form ex sheet) (claims_of ex sheet head)
-    pub small : IfSome (stated_in form ex sheet) (AllByRecursion IsPotential)
-    pub written : bytes ≡ written_certificate ex sheet form head
+-- the bytes are the certificate of a form by numbers, the first or the second, that is written for a
+-- head, which is valid; each number that it states is below 2^32
+pub record IsCertificateByNumbers (ex : Exercise) (sheet : Sheet) (form : Form) (head : CertHead) (bytes : List ℕ)
+    : Type 0 where
+  pub valid : IsCertificate ex sheet head (stated_in form ex sheet) (claims_of ex sheet head)
+  pub small : IfSome (stated_in form ex sheet) (AllByRecursion IsPotential)
+  pub written : bytes ≡ written_certificate ex sheet form head
 
--- no longer than a certificate may be, the bytes are the text of a valid one with this head, which
--- `check` accepts
-abbrev pub IsAcceptable : Exercise → Sheet → CertHead → List ℕ → Type 0
-IsAcceptable ex sheet head bytes = length bytes ≤ longest_certificate → IsCertificateText ex sheet head bytes
+-- the bytes are a valid certificate of a form with this head: by numbers, or in the third form by
+-- prices
+abbrev pub IsCertificateOf : Exercise → Sheet → Form → CertHead → List ℕ → Type 0
+IsCertificateOf ex sheet First head bytes = IsCertificateByNumbers ex sheet First head bytes
+IsCertificateOf ex sheet Second head bytes = IsCertificateByNumbers ex sheet Second head bytes
+IsCertificateOf ex sheet Third head bytes = IsPricedCertificateOf ex sheet head bytes
 
--- the certificate of the best setting with its penalty, whose load is within the budget
+-- the bytes are the text of a valid certificate of a form with this head, which `check` accepts
+pub record IsTextOfForm (ex : Exercise) (sheet : Sheet) (form : Form) (head : CertHead) (bytes : List ℕ) : Type 0 where
+  pub text : IsCertificateText ex sheet head bytes
+  pub stating : form_of text.stated ≡ form
+
+-- they are, where they are no longer than a certificate may be
+abbrev pub IsAcceptable : Exercise → Sheet → Form → CertHead → List ℕ → Type 0
+IsAcceptable ex sheet form head bytes = length bytes ≤ longest_certificate → IsTextOfForm ex sheet form head bytes
+
+-- the certificate of the best setting with its penalty, as the search for the form finds it
 pub record CertifiesBest (ex : Exercise) (sheet : Sheet) (budget : ℕ) (form : Form) (bytes : List ℕ) : Type 0 where
   pub score : Grid
   pub penalty : ℕ
-  pub best : IsBestFound ex (IsBestWithin ex sheet budget) score penalty
+  pub best : IsBestFound ex (IsBestFor form ex sheet budget) score penalty
   pub certificate : IsCertificateOf ex sheet form (Best penalty score) bytes
-  pub acceptable : IsAcceptable ex sheet (Best penalty score) bytes
+  pub acceptable : IsAcceptable ex sheet form (Best penalty score) bytes
 
--- the certificate that no setting is lawful; all live prefixes are within the budget
+-- the certificate that no setting is lawful, as that search finds it
 pub record CertifiesNone (ex : Exercise) (sheet : Sheet) (budget : ℕ) (form : Form) (bytes : List ℕ) : Type 0 where
-  pub none : IsNothingWithin ex sheet budget
+  pub none : IsNothingFor form ex sheet budget
   pub certificate : IsCertificateOf ex sheet form Nothing bytes
-  pub acceptable : IsAcceptable ex sheet Nothing bytes
+  pub acceptable : IsAcceptable ex sheet form Nothing bytes
 
 -- what the bytes show of an exercise, by the verdict
 abbrev pub Shows : Exercise → Sheet → ℕ → Form → Verdict → List ℕ → Type 0
 Shows ex sheet budget form =
-    TellsAs (CertifiesBest ex sheet budget form) (CertifiesNone ex sheet budget form) (IsLeastOver ex sheet budget)
+    TellsAs (CertifiesBest ex sheet budget form) (CertifiesNone ex sheet budget form) (IsBoundFor form ex sheet budget)
 
 -- an output on an exercise none of whose menus is too wide: a certificate that is no longer than
 -- one may be, or a bound
@@ -74,9 +86,10 @@ pub record IsOverlong (budget : ℕ) (form : Form) (sheet : Sheet) (ex : Exercis
   pub shows : Shows ex sheet budget form verdict bytes
   pub long : 1073741824 < length bytes
 
--- a refusal of an exercise, before the work or after it
+-- a refusal of an exercise, before the work or after it; a graph that is too large is one by prices
 abbrev pub RefusesCertifying : ℕ → Form → Sheet → Exercise → Refusal → Type 0
 RefusesCertifying budget form sheet ex LongCertificate = IsOverlong budget form sheet ex
+RefusesCertifying budget form sheet ex LargeGraph = IsNarrow ex × (form ≡ Third)
 RefusesCertifying budget form sheet ex refusal = RefusesWidth ex refusal
 
 -- `certify` with this budget and this form makes this of an exercise, over the sheet in use
@@ -84,13 +97,14 @@ abbrev pub Certifies : ℕ → Form → Sheet → Exercise → Work → Type 0
 Certifies budget form sheet ex (Ok output) = IsCertification budget form sheet ex output
 Certifies budget form sheet ex (Err refusal) = RefusesCertifying budget form sheet ex refusal
 
--- the certificate of a head in a form is the output, with this verdict, or it is too long
+-- a certificate of a head in a form is the output, with this verdict, or it is too long, or its
+-- graph is too large
 abbrev pub CertifiesHead : Exercise → Sheet → Form → CertHead → Verdict → Work → Type 0
 CertifiesHead ex sheet form head verdict (Ok output) =
     (output.verdict ≡ verdict) × IsCertificateOf ex sheet form head output.bytes × (length output.bytes ≤ 1073741824)
 CertifiesHead ex sheet form head verdict (Err LongCertificate) =
-    IsCertificateOf ex sheet form head (written_certificate ex sheet form head)
-    × (1073741824 < length (written_certificate ex sheet form head))
+    (bytes : List ℕ) × IsCertificateOf ex sheet form head bytes × (1073741824 < length bytes)
+CertifiesHead ex sheet form head verdict (Err LargeGraph) = form ≡ Third
 CertifiesHead ex sheet form head verdict (Err refusal) = ⊥
 
 -- the same of what a search of a space found

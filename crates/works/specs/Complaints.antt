@@ -5,7 +5,7 @@ use Rattle.fux_grid.specs.declared.exercise.Place.{Place}
 use Rattle.works.specs.declared.complaint.FileName.{FileName}
 use Rattle.works.specs.declared.complaint.FileName.TheVariants.{Given, Listed}
 use Rattle.works.specs.declared.refusal.Refusal.{Refusal}
-use Rattle.works.specs.declared.refusal.Refusal.TheVariants.{Text, NoSetting, Lesson as NoLesson, With, List as NoList, Canon as NoCanon, TooWide, LongCertificate, Sheet, Midi, Join}
+use Rattle.works.specs.declared.refusal.Refusal.TheVariants.{Text, NoSetting, Lesson as NoLesson, With, List as NoList, Canon as NoCanon, TooWide, LongCertificate, LargeGraph, Sheet, Midi, Join}
 use Rattle.penalty_sheet.specs.Sheets as sheets
 use Rattle.smf_answers.specs.FaultTexts as joined
 use Rattle.smf_score.specs.FaultTexts as midi
@@ -29,6 +29,7 @@ refusal_text name (NoList line) = name ++ codes ":" ++ decimal line ++ codes ": 
 refusal_text name (NoCanon line) = name ++ codes ":" ++ decimal line ++ codes ": canon"
 refusal_text name (TooWide place count) = width_text place count
 refusal_text name LongCertificate = codes "certificate too long"
+refusal_text name LargeGraph = codes "graph too large"
 refusal_text name (Sheet fault) = codes "sheet: " ++ sheets.fault_text fault
 refusal_text name (Midi fault) = codes "midi: " ++ midi.fault_text fault
 refusal_text name (Join fault) = codes "midi: " ++ joined.fault_text fault

@@ -1,5 +1,7 @@
 -- What a search for the best setting of an exercise finds, over a sheet of weights.
 use Rattle.std.specs.Prelude.{◌≡◌, ℕ, ◌<◌, ◌≤◌, List, Result, Ok, Err, length}
+use Rattle.cert_text.specs.declared.answers.Form.{Form}
+use Rattle.cert_text.specs.declared.answers.Form.TheVariants.{First, Second, Third}
 use Rattle.fux_grid.specs.declared.cell.Cell.{Cell}
 use Rattle.fux_grid.specs.declared.exercise.Exercise.{Exercise}
 use Rattle.fux_grid.specs.Exercises.{HasCantus, IsComplete, columns_in}
@@ -62,6 +64,35 @@ abbrev pub IsFoundSharply : Exercise → Sheet → ℕ → Found → Type 0
 IsFoundSharply ex sheet budget (Best score penalty) = IsBestFound ex (IsBestOf ex sheet) score penalty
 IsFoundSharply ex sheet budget Nothing = HasNoLawful ex
 IsFoundSharply ex sheet budget (Spent bound) = IsSharpBound ex sheet budget bound
+
+-- ---- the search that a form of a certificate asks for, which is by sharper floors for the third
+
+-- it finds this best setting, with its penalty
+abbrev pub IsBestFor : Form → Exercise → Sheet → ℕ → List (List Cell) → ℕ → Type 0
+IsBestFor First ex sheet budget = IsBestWithin ex sheet budget
+IsBestFor Second ex sheet budget = IsBestWithin ex sheet budget
+IsBestFor Third ex sheet budget = IsBestOf ex sheet
+
+-- it finds that no setting is lawful
+abbrev pub IsNothingFor : Form → Exercise → Sheet → ℕ → Type 0
+IsNothingFor First ex sheet budget = IsNothingWithin ex sheet budget
+IsNothingFor Second ex sheet budget = IsNothingWithin ex sheet budget
+IsNothingFor Third ex sheet budget = HasNoLawful ex
+
+-- it tells this bound where the budget is spent
+abbrev pub IsBoundFor : Form → Exercise → Sheet → ℕ → ℕ → Type 0
+IsBoundFor First ex sheet budget = IsLeastOver ex sheet budget
+IsBoundFor Second ex sheet budget = IsLeastOver ex sheet budget
+IsBoundFor Third ex sheet budget = IsSharpBound ex sheet budget
+
+-- what it found is so
+abbrev pub IsFoundFor : Form → Exercise → Sheet → ℕ → Found → Type 0
+IsFoundFor form ex sheet budget (Best score penalty) =
+    IsBestFound ex (IsBestFor form ex sheet budget) score penalty
+IsFoundFor form ex sheet budget Nothing = IsNothingFor form ex sheet budget
+IsFoundFor form ex sheet budget (Spent bound) = IsBoundFor form ex sheet budget bound
+
+-- ---- what a search answers
 
 -- a setting that was found has the exercise's voices and all columns
 abbrev pub HasWholeScore : Exercise → Found → Type 0

@@ -2,6 +2,7 @@
 
 ghost use Rattle.std.specs.Prelude.{◌≡◌, ◌<◌, ◌^◌, ◌∷◌, IfErr, None};
 ghost use Rattle.cert_law.specs.Certificates.{Holds};
+ghost use Rattle.cert_text.specs.HeadRows.{IsUpTo};
 ghost use Rattle.cert_writer.specs.Heads.{head_with};
 ghost use Rattle.fux_grid.specs.Exercises.{IsValid};
 ghost use Rattle.command_words.specs.Commands.{certify, sheet_named};
@@ -18,7 +19,7 @@ use crate::content::read_content;
 use crate::exercise::{LONGEST_TEXT, exercise_of};
 use crate::making::{read_weights, said_of};
 use crate::refusal::Refusal;
-use crate::searching::{Found, search, space_of};
+use crate::searching::{Found, search_for, space_of};
 use crate::weighing::sheet_of;
 use crate::work::{Halt, Stop, Verdict};
 use cert_text::{CertWrite, Form};
@@ -27,6 +28,7 @@ use class_marker::Text;
 use fux_grid::{Exercise, Score};
 use fux_port::{Failed, Shelf, Sink, write_all};
 use penalty_sheet::Sheet;
+use price_writer::{PricesWrite, certify_prices};
 use species_space::SpeciesSpace;
 use std::alloc::Global;
 use std::thread::Threads;
@@ -48,22 +50,33 @@ pub fn certify<K: Sink, R: Threads + Sync>(
         out.old out.new result }
 {
     let space = space_of(rt, alloc, exercise, sheet)?;
-    let Ok(found) = search(alloc, &space, budget) else {
+    let Ok(found) = search_for(alloc, &space, budget, form) else {
         return Err(Halt::Stopped(Stop::Memory));
     };
     match found {
         Found::Best { score, penalty } => {
             penalty_fits(penalty);
             put_certificate(
+                rt,
                 alloc,
                 &space,
+                budget,
                 form,
                 Some((&score, penalty)),
                 Verdict::Favorable,
                 out,
             )
         }
-        Found::Nothing => put_certificate(alloc, &space, form, None, Verdict::Unfavorable, out),
+        Found::Nothing => put_certificate(
+            rt,
+            alloc,
+            &space,
+            budget,
+            form,
+            None,
+            Verdict::Unfavorable,
+            out,
+        ),
         Found::Spent { bound } => put_bound(alloc, bound, out),
     }
 }
@@ -76,10 +89,12 @@ pub fn penalty_fits(penalty: u64)
 }
 
 /// Writes the certificate, in a form, of the best setting with its penalty, or the one that says
-/// that no setting is lawful.
-fn put_certificate<K: Sink>(
+/// that no setting is lawful. The prices of the third form are sought within the budget.
+fn put_certificate<K: Sink, R: Threads + Sync>(
+    rt: &R,
     alloc: Global,
     space: &SpeciesSpace<'_>,
+    budget: u32,
     form: Form,
     best: Option<(&Score, u64)>,
     verdict: Verdict,
@@ -91,11 +106,58 @@ fn put_certificate<K: Sink>(
     ensures { WritesTo K.written K.faults K.serves (CertifiesFound space.now form best.entry
         verdict) out.old out.new result }
 {
+    match form {
+        Form::First => put_numbers(alloc, space, Form::First, best, verdict, out),
+        Form::Second => put_numbers(alloc, space, Form::Second, best, verdict, out),
+        Form::Third => put_prices(rt, alloc, space, budget, best, verdict, out),
+    }
+}
+
+/// Writes it in a form by numbers.
+fn put_numbers<K: Sink>(
+    alloc: Global,
+    space: &SpeciesSpace<'_>,
+    form: Form,
+    best: Option<(&Score, u64)>,
+    verdict: Verdict,
+    out: &mut K,
+) -> Result<Verdict, Halt>
+    requires valid { IsValid space.now.exercise }
+    requires unmixed { space.now.exercise.mixed ≡ None }
+    requires holds { Holds space.now.exercise space.now.sheet (head_with best) }
+    requires numbers { IsUpTo Form.Second form }
+    ensures { WritesTo K.written K.faults K.serves (CertifiesFound space.now form best.entry
+        verdict) out.old out.new result }
+{
     match certify_form(alloc, space, best, form, out) {
         Ok(()) => Ok(verdict),
         Err(CertWrite::WriteFault) => Err(Halt::Unwritable),
         Err(CertWrite::TooLong) => Err(Halt::Stopped(Stop::Refused(Refusal::LongCertificate))),
         Err(CertWrite::Memory) => Err(Halt::Stopped(Stop::Memory)),
+    }
+}
+
+/// Writes it in the form by prices.
+fn put_prices<K: Sink, R: Threads + Sync>(
+    rt: &R,
+    alloc: Global,
+    space: &SpeciesSpace<'_>,
+    budget: u32,
+    best: Option<(&Score, u64)>,
+    verdict: Verdict,
+    out: &mut K,
+) -> Result<Verdict, Halt>
+    requires unmixed { space.now.exercise.mixed ≡ None }
+    requires holds { Holds space.now.exercise space.now.sheet (head_with best) }
+    ensures { WritesTo K.written K.faults K.serves (CertifiesFound space.now Form.Third best.entry
+        verdict) out.old out.new result }
+{
+    match certify_prices(rt, alloc, space, best, budget, out) {
+        Ok(()) => Ok(verdict),
+        Err(PricesWrite::WriteFault) => Err(Halt::Unwritable),
+        Err(PricesWrite::TooLong) => Err(Halt::Stopped(Stop::Refused(Refusal::LongCertificate))),
+        Err(PricesWrite::TooLarge) => Err(Halt::Stopped(Stop::Refused(Refusal::LargeGraph))),
+        Err(PricesWrite::Memory) => Err(Halt::Stopped(Stop::Memory)),
     }
 }
 

@@ -48,6 +48,7 @@ pub fn check<F: Shelf, R: Threads + Sync>(
         Err(CheckFault::TooWide { place, count }) => {
             Err(Unmade::Stopped(Stop::Refused(Refusal::TooWide { place, count })))
         }
+        Err(CheckFault::TooLarge) => Err(Unmade::Stopped(Stop::Refused(Refusal::LargeGraph))),
         Err(CheckFault::Memory) => Err(Unmade::Stopped(Stop::Memory)),
     }
 }

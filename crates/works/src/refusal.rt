@@ -51,6 +51,8 @@ pub enum Refusal {
     },
     /// The certificate has more than 1,073,741,824 bytes.
     LongCertificate,
+    /// A list of a certificate has more than 4,194,304 nodes or 6,000,000 edges to be worked.
+    LargeGraph,
     /// The file is no sheet of weights: its first fault.
     Sheet {
         fault: SheetFault,
@@ -92,6 +94,7 @@ fn put_refusal(text: &mut String, name: &str, refusal: &Refusal) -> Result<(), M
         Refusal::Canon { line } => Ok(write!(text, "{name}:{line}: canon")?),
         Refusal::TooWide { place, count } => put_width(text, *place, *count),
         Refusal::LongCertificate => Ok(text.push_str("certificate too long")?),
+        Refusal::LargeGraph => Ok(text.push_str("graph too large")?),
         Refusal::Sheet { fault } => Ok(write!(text, "sheet: {fault}")?),
         Refusal::Midi { fault } => Ok(write!(text, "midi: {fault}")?),
         Refusal::Join { fault } => Ok(write!(text, "midi: {fault}")?),

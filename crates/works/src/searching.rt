@@ -4,10 +4,11 @@ ghost use Rattle.std.specs.Prelude.{IfErr, IfOk};
 ghost use Rattle.fux_grid.specs.Exercises.{IsValid};
 ghost use Rattle.fux_judge.specs.Lawful.{BoundsLawful};
 ghost use Rattle.tree_search.specs.Outcomes.{IfFound};
-ghost use Rattle.works.specs.Searched.{Finds, IsFirstPath, IsFound, IsFoundBy, IsFoundSharply, IsRaised, IsScoreAt, IsSpaceOf, StopsAtWidth};
+ghost use Rattle.works.specs.Searched.{Finds, IsFirstPath, IsFound, IsFoundBy, IsFoundFor, IsFoundSharply, IsRaised, IsScoreAt, IsSpaceOf, StopsAtWidth};
 
 use crate::refusal::Refusal;
 use crate::work::Stop;
+use cert_text::Form;
 use fux_grid::{Exercise, Score};
 use fux_pitch::Memory;
 use penalty_sheet::Sheet;
@@ -78,8 +79,26 @@ pub fn space_of<'a, R: Threads + Sync>(
     }
 }
 
+/// Searches the settings of an exercise as a form of a certificate asks for: by sharper floors for
+/// the third.
+pub fn search_for(
+    alloc: Global,
+    space: &SpeciesSpace<'_>,
+    budget: u32,
+    form: Form,
+) -> Result<Found, Memory>
+    requires { IsValid space.now.exercise }
+    ensures { IfOk result (IsFoundFor form space.now.exercise space.now.sheet budget) }
+{
+    match form {
+        Form::First => search(alloc, space, budget),
+        Form::Second => search(alloc, space, budget),
+        Form::Third => search_sharply(alloc, space, budget),
+    }
+}
+
 /// Searches the settings of an exercise.
-pub fn search(alloc: Global, space: &SpeciesSpace<'_>, budget: u32) -> Result<Found, Memory>
+fn search(alloc: Global, space: &SpeciesSpace<'_>, budget: u32) -> Result<Found, Memory>
     requires { IsValid space.now.exercise }
     ensures { IfOk result (IsFound space.now.exercise space.now.sheet budget) }
 {
