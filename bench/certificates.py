@@ -263,7 +263,7 @@ def changes(cert, weight, others):
         return it.text()
 
     yield "another lawful setting with its own penalty", sung(*others), REFUSED
-    yield "another lawful setting with the best penalty", sung(others[0], penalty), head
+    yield "another lawful setting with the best penalty", sung(others[0], penalty), REFUSED
     yield "a lesser penalty", best(penalty - 1), head
     yield "a greater penalty", best(penalty + 1), head
     yield "one pitch of the setting", sung([re.sub(r"\w+:8$", "F5:8", cert.sing[0])], penalty), head
@@ -283,7 +283,7 @@ def changes(cert, weight, others):
     at, line = cert.prices()[last]
     yield "a price twice", with_lines(cert, at, lambda it: it.insert(line, it[line])), at_byte
     yield "two prices exchanged", with_lines(
-        cert, at, lambda it: it.insert(line, f"{' '.join(it[line].split()[:3])} E7 1")), at_byte
+        cert, at, lambda it: it.insert(line, f"{' '.join(it[line].split()[:3])} B6 1")), at_byte
     yield "a price of a case that isn't there", with_price(
         cert, last, lambda w: [w[0], "17", *w[2:]]), at_byte
     yield "a price of the cantus", with_price(cert, 0, lambda w: [*w[:2], "0", *w[3:]]), at_byte
@@ -294,7 +294,7 @@ def changes(cert, weight, others):
         cert, cert.prices()[0][0], lambda it: it.pop(cert.prices()[0][1])), TRUE
     yield "all prices left out", re.sub(r"(?m)^price .*\n", "", cert.text()), TRUE
     yield "a price more of a pitch that never comes", with_lines(
-        cert, at, lambda it: it.append(f"{' '.join(it[line].split()[:3])} E7 {16 * weight}")), TRUE
+        cert, at, lambda it: it.append(f"{' '.join(it[line].split()[:3])} B6 {16 * weight}")), TRUE
 
     yield "the first key left out", with_cases(cert, lambda w: [*w[:2], *w[3:]]), "refused at |accepted"
     yield "the last key left out", with_cases(cert, lambda w: w[:-1]), "refused at |accepted"
