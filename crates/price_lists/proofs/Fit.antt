@@ -1,20 +1,19 @@
 -- Where each price is due, what lists state is due, small and in our parts (`lists_fit`).
-use Rattle.std.proofs.Common.{◌≡◌, ◌⊎◌, inl, inr, ⊎_elim, ℕ, zero, suc, ◌+◌, ◌*◌, ◌/◌, ◌%◌, ◌<◌, ◌≤◌, nat_lt, nat_le, Bool, true, false, not, ◌&&◌, ◌||◌, List, [], ◌∷◌, Option, Some, None, arith, get_or, length, map, option_map, slice_index, slice_index_or, refl, ap, subst, sym, ◌∙◌}
+use Rattle.std.proofs.Common.{◌≡◌, ◌⊎◌, ⊎_elim, ℕ, ◌+◌, ◌*◌, ◌≤◌, nat_le, Bool, true, false, not, ◌&&◌, ◌||◌, List, [], ◌∷◌, Option, Some, None, arith, length, slice_index, slice_index_or, refl, ap, subst, sym, ◌∙◌}
 use Rattle.std.specs.List.{AllByRecursion, list_any}
 use Rattle.std.proofs.lemmas.Bool.{and_from, and_parts, cases_lt, le-leb}
 use Rattle.cert_law.specs.Rests.{HasSmallWeights}
 use Rattle.penalty_sheet.specs.declared.sheet.Sheet.{Sheet}
 use Rattle.penalty_sheet.specs.Weights.{weight_of}
-use Rattle.price_law.specs.Certificates.{ChargesNothing, IsFairList}
+use Rattle.price_law.specs.Certificates.{ChargesNothing}
 use Rattle.price_law.specs.PriceLists.{PriceList}
 use Rattle.price_lists.specs.Owned.{AreKeys, IsFit}
 use Rattle.price_lists.specs.Laws.{ListsFit}
-use Rattle.price_lists.specs.Stated.{AreDue, AreEachStated, IsStated, StatedList, all_prices, cases_of, first_above, has_no_keys, has_price, is_plain, lists_of, price_at, prices_at, prices_in, summits_from}
+use Rattle.price_lists.specs.Stated.{AreEachStated, IsStated, StatedList, cases_of, first_above, has_no_keys, has_price, lists_of, price_at, prices_in, summits_from}
 use Rattle.price_lists.proofs.Told.{cases_few}
 use Rattle.price_lists.proofs.Bounds.{due_each, keys_each, price_low, price_none, prices_there, strikes_within, summits-few, tops_within}
-use Rattle.price_text.specs.PriceLines.{Line}
-use Rattle.priced_floors.specs.Charges.{AreCases, AreFairCharges, AreSmallCharges, any_summit, has_key, is_below}
-use Rattle.priced_floors.specs.declared.charges.TheConstants.{CASES, MOST_CHARGE, SCALE}
+use Rattle.priced_floors.specs.Charges.{AreCases, AreFairCharges, any_summit, has_key, is_below}
+use Rattle.priced_floors.specs.declared.charges.TheConstants.{SCALE}
 use Rattle.priced_floors.specs.declared.prices.Prices.{Prices}
 use Rattle.priced_floors.specs.declared.prices.Summit.{Summit}
 

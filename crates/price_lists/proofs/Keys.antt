@@ -1,5 +1,5 @@
 -- The lines of whole lists have keys below 127, and at most 15 (`lists_have_keys`).
-use Rattle.std.proofs.Common.{◌≡◌, ℕ, ◌-◌, ◌<◌, ◌≤◌, List, [], ◌∷◌, arith, length}
+use Rattle.std.proofs.Common.{ℕ, ◌-◌, ◌<◌, ◌≤◌, List, [], ◌∷◌, arith, length}
 use Rattle.std.specs.List.{AllByRecursion}
 use Rattle.fux_grid.specs.declared.exercise.Exercise.{Exercise}
 use Rattle.price_lists.specs.Laws.{ListsHaveKeys}

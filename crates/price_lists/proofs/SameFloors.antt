@@ -1,9 +1,8 @@
 -- What lists of prices say depends on what is stated alone (`stated_floors_are_one`): the parts of
 -- charges that sums read are told by the lines.
-use Rattle.std.proofs.Common.{◌≡◌, ℕ, ◌+◌, ◌*◌, ◌==◌, Bool, List, [], ◌∷◌, Option, Some, None, length, map, slice_index_or, refl, ap, ap₂, sym, ◌∙◌, if◌then◌else◌}
+use Rattle.std.proofs.Common.{◌≡◌, ℕ, ◌+◌, ◌*◌, ◌==◌, Bool, List, [], ◌∷◌, Option, Some, None, length, slice_index_or, refl, ap, ap₂, sym, ◌∙◌, if◌then◌else◌}
 use Rattle.std.specs.List.{sum_by}
 use Rattle.floor_graphs.specs.Sharper.{greater}
-use Rattle.floor_graphs.specs.Graphs.{Rate}
 use Rattle.fux_grid.specs.declared.cell.Cell.{Cell}
 use Rattle.fux_grid.specs.declared.exercise.Exercise.{Exercise}
 use Rattle.fux_grid.specs.Cells.{cell_in}

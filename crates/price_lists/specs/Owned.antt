@@ -1,5 +1,5 @@
 -- Lists of prices that are owned.
-use Rattle.std.specs.Prelude.{◌≡◌, ℕ, ◌<◌, ◌≤◌, ⊤, All, List, [], ◌∷◌, length, map}
+use Rattle.std.specs.Prelude.{◌≡◌, ◌<◌, ◌≤◌, ⊤, length}
 use Rattle.std.specs.List.{AllByRecursion}
 use Rattle.penalty_sheet.specs.declared.sheet.Sheet.{Sheet}
 use Rattle.price_lists.specs.declared.stated.OwnList.{OwnList}
@@ -7,7 +7,6 @@ use Rattle.price_law.specs.Certificates.{IsFairList}
 use Rattle.price_law.specs.PriceLists.{PriceList}
 use Rattle.price_text.specs.PriceLines.{Cases, Claims, Keeps, Line, Price}
 use Rattle.priced_floors.specs.declared.charges.TheConstants.{CASES, MOST_CHARGE, SCALE}
-use Rattle.priced_floors.specs.declared.charges.Charges.{Charges}
 use Rattle.priced_floors.specs.Charges.{AreSmallCharges}
 
 -- the list of prices

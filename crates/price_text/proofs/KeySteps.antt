@@ -1,7 +1,7 @@
 -- Reading keys one by one (`keys-none`, `keys-refused`, `keys-last`, `keys-more`).
+use Rattle.text_lines.specs.Faults.{◌>>=◌}
 use Rattle.std.proofs.Common.{◌≡◌, ℕ, zero, suc, ◌+◌, ◌-◌, ◌<◌, Bool, true, false, List, [], ◌∷◌, ◌++◌, length, Option, Some, None, Result, Ok, Err, refl, sym, ap, ◌∙◌, subst, append_assoc, arith}
 use Rattle.std.specs.Option.{ok_or}
-use Rattle.text_lines.specs.Faults.{◌>>=◌}
 use Rattle.price_text.specs.Laws.{IsKeysRead}
 use Rattle.price_text.specs.Reading.{Word, first_word, key_and_more, key_of, keys_in, said}
 

@@ -1,7 +1,8 @@
 -- A line that is read may stand there, and its text stands at the front of the bytes
 -- (`read_lines_fit`).
-use Rattle.std.proofs.Common.{◌≡◌, ℕ, zero, suc, ◌+◌, ◌-◌, ◌<◌, ◌≤◌, Bool, true, false, List, [], ◌∷◌, ◌++◌, length, map, Option, Some, None, option_map, Result, Ok, Err, refl, sym, ap, ◌∙◌, subst, arith, if◌then◌else◌}
-use Rattle.std.specs.Prelude.{◌==◌, ◌&&◌, nat_lt, nat_le, not, codes}
+use Rattle.text_lines.specs.Faults.{◌>>=◌}
+use Rattle.std.proofs.Common.{◌≡◌, ℕ, zero, suc, ◌+◌, ◌-◌, ◌<◌, ◌≤◌, Bool, true, false, List, [], ◌∷◌, ◌++◌, map, Option, Some, None, option_map, Ok, refl, sym, ap, ◌∙◌, subst, arith, if◌then◌else◌}
+use Rattle.std.specs.Prelude.{◌&&◌, nat_lt, nat_le, not, codes}
 use Rattle.std.specs.Fmt.{decimal}
 use Rattle.std.specs.Option.{option_and_then}
 use Rattle.std.proofs.lemmas.Bool.{and_parts, not-true}
@@ -13,7 +14,6 @@ use Rattle.fux_text.specs.Names.{pitch_named}
 use Rattle.fux_text.specs.Words.{text_line}
 use Rattle.fux_text.proofs.Named.{text_from}
 use Rattle.fux_text.proofs.OnlyWords.{pitch-only, within-only}
-use Rattle.text_lines.specs.Faults.{◌>>=◌}
 use Rattle.text_lines.specs.Numbers.{if_within, number_within}
 use Rattle.text_lines.specs.Numbers as numbers
 use Rattle.text_lines.specs.Reading.{same_text}
@@ -24,8 +24,8 @@ use Rattle.price_text.specs.declared.words.Part.{Part}
 use Rattle.price_text.specs.declared.words.Part.TheVariants as parts
 use Rattle.price_text.specs.Laws.{IsRead}
 use Rattle.price_text.specs.PriceLines.{Keeps, Cases, Price, Claims, AreFalling, Fits, Line, is_free_voice, line_text, most_price, price_place}
-use Rattle.price_text.specs.Reading.{Word, behind_kind, behind_part, behind_voice, case_of, cases_in, free_named, free_or_none, if_below, if_later, inner_voice_of, keeps_in, key_and_more, key_of, keys_in, kind_of, line_in, number_of, only_if, part_of, pitch_of, price_in, runs_of, said, voice_of}
-use Rattle.price_text.proofs.WordLaws.{AreSteps, IsSaid, chosen, end_byte, first_is, line-last, line-more, said-only, second_is, steps}
+use Rattle.price_text.specs.Reading.{behind_kind, behind_part, behind_voice, case_of, cases_in, free_named, free_or_none, if_below, if_later, inner_voice_of, keeps_in, key_and_more, key_of, keys_in, kind_of, line_in, number_of, only_if, part_of, pitch_of, price_in, runs_of, said, voice_of}
+use Rattle.price_text.proofs.WordLaws.{chosen, end_byte, first_is, line-last, line-more, said-only, second_is, steps}
 
 -- ---- numbers
 

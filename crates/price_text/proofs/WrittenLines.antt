@@ -1,5 +1,6 @@
 -- A line that may stand there is read as it is written (`lines_are_read`).
-use Rattle.std.proofs.Common.{◌≡◌, ℕ, zero, suc, ◌+◌, ◌-◌, ◌%◌, ◌<◌, ◌≤◌, ◌^◌, Bool, true, false, List, [], ◌∷◌, ◌++◌, length, map, Option, Some, None, option_map, Result, Ok, Err, refl, sym, ap, ◌∙◌, subst, arith, if◌then◌else◌}
+use Rattle.text_lines.specs.Faults.{◌>>=◌}
+use Rattle.std.proofs.Common.{◌≡◌, ℕ, zero, suc, ◌+◌, ◌-◌, ◌%◌, ◌<◌, ◌≤◌, ◌^◌, Bool, true, false, List, [], ◌∷◌, ◌++◌, map, Some, option_map, Ok, refl, ap, ◌∙◌, subst, arith}
 use Rattle.std.specs.Prelude.{◌==◌, ◌&&◌, nat_lt, not, codes}
 use Rattle.std.specs.Fmt.{decimal}
 use Rattle.std.specs.List.{list_all}
@@ -12,19 +13,16 @@ use Rattle.fux_pitch.specs.declared.pitch.Pitch.{Pitch}
 use Rattle.fux_pitch.specs.Names.{name_of}
 use Rattle.fux_pitch.proofs.NameLemmas.{name_of-passes}
 use Rattle.fux_grid.specs.declared.exercise.Exercise.{Exercise}
-use Rattle.fux_text.specs.Names.{pitch_named}
 use Rattle.fux_text.specs.Words.{text_line}
 use Rattle.fux_text.proofs.NumberWords.{within-own}
 use Rattle.fux_text.proofs.OwnWords.{pitch-own}
 use Rattle.fux_text.proofs.PlainWords.{is_ink}
-use Rattle.text_lines.specs.Faults.{◌>>=◌}
-use Rattle.text_lines.specs.Numbers.{number_within}
 use Rattle.price_text.specs.declared.line.Before.{Before}
 use Rattle.price_text.specs.declared.words.Kind.{Kind}
 use Rattle.price_text.specs.declared.words.Kind.TheVariants as kinds
 use Rattle.price_text.specs.declared.words.Part.TheVariants as parts
 use Rattle.price_text.specs.PriceLines.{Keeps, Cases, Price, Claims, AreFalling, Fits, Line, is_free_voice, line_text, most_price, price_place}
-use Rattle.price_text.specs.Reading.{Word, behind_kind, behind_voice, case_of, cases_in, free_named, free_or_none, if_below, if_later, inner_voice_of, is_end, keeps_in, key_and_more, key_of, keys_in, kind_of, line_in, number_of, only_if, part_of, pitch_of, price_in, runs_of, said, voice_of}
+use Rattle.price_text.specs.Reading.{behind_kind, case_of, cases_in, free_named, free_or_none, if_below, if_later, inner_voice_of, is_end, keeps_in, key_of, keys_in, kind_of, line_in, number_of, part_of, pitch_of, price_in, runs_of, said, voice_of}
 use Rattle.price_text.proofs.WordLaws.{bound, choose, line-last, line-more, said-own}
 
 -- ---- words of ink

@@ -1,5 +1,5 @@
 -- Whole lists: lines one after the other, up to the one behind all.
-use Rattle.std.specs.Prelude.{◌≡◌, ℕ, zero, suc, ◌≤◌, Bool, true, false, ⊤, List, [], ◌∷◌, ◌++◌, flat_map, length, Result, Ok, Err, if◌then◌else◌}
+use Rattle.std.specs.Prelude.{◌≡◌, ℕ, zero, suc, ◌≤◌, Bool, true, false, ⊤, List, [], ◌∷◌, ◌++◌, flat_map, length, Result, Ok, Err}
 use Rattle.fux_grid.specs.declared.exercise.Exercise.{Exercise}
 use Rattle.text_lines.specs.Faults.{◌>>=◌}
 use Rattle.price_text.specs.declared.line.Before.{Before}

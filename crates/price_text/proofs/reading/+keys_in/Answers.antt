@@ -1,4 +1,4 @@
-use Rattle.std.proofs.Common.{Bor, ◌≡◌, ℕ, ◌-◌, ◌<◌, ◌++◌, ◌∷◌, [], Bool, List, Option, Some, option_map, Result, Ok, length, sym, ap, ◌∙◌, subst, arith}
+use Rattle.std.proofs.Common.{Bor, ◌≡◌, ℕ, ◌-◌, ◌<◌, Bool, List, Some, option_map, Ok, sym, ap, ◌∙◌, subst, arith}
 use Rattle.price_text.specs.Laws.{IsKeysRead}
 use Rattle.price_text.specs.Reading as reading
 use Rattle.price_text.specs.Reading.{seen_by, word_of}
