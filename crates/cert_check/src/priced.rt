@@ -112,7 +112,8 @@ fn judge_claims<F: Shelf>(
 }
 
 /// Works the numbers of lists whose prices are due, and judges the claims behind them.
-fn judge_lists<F: Shelf>(
+fn judge_lists<R: Threads + Sync, F: Shelf>(
+    rt: &R,
     alloc: Global,
     space: &SpeciesSpace<'_>,
     shelf: &mut F,
@@ -144,7 +145,7 @@ fn judge_lists<F: Shelf>(
     let own = lists_stated(alloc, sheet, lines)?;
     let lists = priced_lists(alloc, space, &own)?;
     let webs = webs_of(alloc, &lists)?;
-    let numbers = list_numbers(alloc, &lists, &webs)?;
+    let numbers = list_numbers(rt, alloc, &lists, &webs)?;
     let floors = list_floors(alloc, &lists, &webs, &numbers)?;
     let case = Case {
         exercise,
@@ -199,7 +200,7 @@ fn judge_priced<R: Threads + Sync, F: Shelf>(
     if let Some(refused) = front_refusal(ex, sheet, head, lines) {
         return Ok(Verdict::Claim(refused));
     }
-    judge_lists(alloc, &space, shelf, name, head, lines, reader)
+    judge_lists(rt, alloc, &space, shelf, name, head, lines, reader)
 }
 
 /// Judges the lists behind a head of the third form, and then the claims.

@@ -2,3 +2,4 @@ pub mod Places
 pub mod SharpLemmas
 pub mod Pushed
 pub mod Webs
+pub mod Found

@@ -69,6 +69,10 @@ pub record AreNumbersIn (webs : List (Option (Web Kept))) (it : PricedList) (num
       → AreNumbersOf web (columns_in it.space.space.now.exercise) (case_in it.space.space.now.exercise it.space.charges.now k)
       (numbers_of numbers k)
 
+-- they are those of the list at a place
+abbrev pub AreNumbersAt : List PricedList → List (Option (Web Kept)) → ℕ → Vec (List (Option ℕ)) Global → Type 0
+AreNumbersAt lists webs j own = (it : PricedList) → slice_get lists j ≡ Some it → AreNumbersIn webs it own.items
+
 -- each list has its numbers
 pub record AreEachNumbers (lists : List PricedList) (webs : List (Option (Web Kept))) (numbers : List (Vec (List (Option ℕ)) Global))
     : Type 0 where

@@ -3,7 +3,7 @@
 ghost use Rattle.std.specs.Prelude.{◌≡◌, ◌≢◌, ◌<◌, ◌≤◌, ℕ, Some, None, length, map, slice_get, IfNone, IfOk, IfSome};
 ghost use Rattle.std.specs.List.{AllByRecursion};
 ghost use Rattle.price_check.specs.Floors.{AreFor, list_of as list_of_floor};
-ghost use Rattle.price_check.specs.Woven.{AreEachNumbers, AreNumbersIn, AreOf, AreOfOne, AreWebs, HasWeb, IsWebFor, list_priced};
+ghost use Rattle.price_check.specs.Woven.{AreEachNumbers, AreNumbersAt, AreNumbersIn, AreOf, AreOfOne, AreWebs, HasWeb, IsWebFor, list_priced};
 ghost use Rattle.price_check.specs.Woven as words;
 ghost use Rattle.price_check.specs.declared.priced_list.PricedList.{PricedList as APriced};
 ghost use Rattle.floor_tables.specs.Tables.{Task};
@@ -17,8 +17,10 @@ use path_sums::PathSums;
 use price_lists::OwnList;
 use priced_floors::{Kept, PricedSpace};
 use priced_paths::{Web, case_numbers, web_of};
+use rayon::prelude::*;
 use species_space::SpeciesSpace;
 use std::alloc::Global;
+use std::thread::Threads;
 
 /// Why there are no webs.
 #[derive(Clone, Copy, Debug, PartialEq, Eq)]
@@ -135,8 +137,25 @@ fn web_in<'a>(webs: &'a [Option<Web<Kept>>], list: &PricedList<'_>) -> &'a Web<K
     }
 }
 
-/// The numbers of each list.
-pub fn list_numbers(
+/// The numbers of the list at a place.
+fn numbers_at(
+    alloc: Global,
+    lists: &[PricedList<'_>],
+    webs: &[Option<Web<Kept>>],
+    j: usize,
+) -> Result<Vec<Numbers<Option<u64>>>, Memory>
+    requires webs { AreWebs lists.now webs.now }
+    requires within { j < length lists.now }
+    ensures { IfOk result (AreNumbersAt lists.now webs.now j) }
+{
+    let list = &lists[j];
+    let web = web_in(webs, list);
+    case_numbers(alloc, &list.space, web)
+}
+
+/// The numbers of each list, worked side by side. They don't depend on how the work is divided.
+pub fn list_numbers<R: Threads + Sync>(
+    rt: &R,
     alloc: Global,
     lists: &[PricedList<'_>],
     webs: &[Option<Web<Kept>>],
@@ -144,14 +163,17 @@ pub fn list_numbers(
     requires { AreWebs lists.now webs.now }
     ensures { IfOk result (λ numbers. AreEachNumbers lists.now webs.now numbers.items) }
 {
-    let mut numbers = Vec::with_capacity(alloc, lists.len())?;
-    for j in 0..lists.len() {
-        let list = &lists[j];
-        let web = web_in(webs, list);
-        let own = case_numbers(alloc, &list.space, web)?;
-        numbers.push_reserved(own);
-    }
-    Ok(numbers)
+    let numbers = (0..lists.len())
+        .into_par_iter()
+        .map(
+            |j: usize| -> Result<Vec<Numbers<Option<u64>>>, Memory>
+                requires webs { AreWebs lists.now webs.now }
+                requires within { j < length lists.now }
+                ensures { IfOk result (AreNumbersAt lists.entry.now webs.entry.now j) }
+            { numbers_at(alloc, lists, webs, j) },
+        )
+        .collect::<Result<Vec<Vec<Numbers<Option<u64>>>>, Memory>>(rt, alloc)?;
+    numbers
 }
 
 /// A list with its web and its numbers.

@@ -27,7 +27,8 @@ use std::thread::Threads;
 
 /// Writes the certificate of a head that holds, by the lists that lines state, behind the text of
 /// that head.
-fn write_by_lines<K: Sink>(
+fn write_by_lines<R: Threads + Sync, K: Sink>(
+    rt: &R,
     alloc: Global,
     space: &SpeciesSpace<'_>,
     head: &CertHead,
@@ -57,7 +58,7 @@ fn write_by_lines<K: Sink>(
     let own = lists_stated(alloc, sheet, lines)?;
     let priced = priced_lists(alloc, space, &own)?;
     let webs = webs_of(alloc, &priced)?;
-    let numbers = list_numbers(alloc, &priced, &webs)?;
+    let numbers = list_numbers(rt, alloc, &priced, &webs)?;
     let floors = list_floors(alloc, &priced, &webs, &numbers)?;
     let case = Case {
         exercise,
@@ -112,5 +113,5 @@ pub fn certify_prices<K: Sink, R: Threads + Sync>(
     let Some(lines) = lines_within(alloc, exercise, sheet, &tuned, front.as_str())? else {
         return Err(PricesWrite::TooLarge);
     };
-    write_by_lines(alloc, space, &head, front.as_str(), &lines, sink)
+    write_by_lines(rt, alloc, space, &head, front.as_str(), &lines, sink)
 }

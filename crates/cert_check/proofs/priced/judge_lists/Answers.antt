@@ -62,8 +62,10 @@ returns-in_err-webs-clause-answers g c =
     c.requires.opened _)
 
 pub list_numbers-requires : goal.list_numbers-requires
-list_numbers-requires g c =
-    rw (c.deref-3.ensures.value, c.deref-4.ensures.value) (rw c.deref-2.ensures.value at c.in_ok-webs.ensures)
+list_numbers-requires g c = (
+  c.type_bounds.sync-R,
+  rw (c.deref-3.ensures.value, c.deref-4.ensures.value) (rw c.deref-2.ensures.value at c.in_ok-webs.ensures),
+)
 
 pub list_floors-requires-clause-webs : goal.list_floors-requires-clause-webs
 list_floors-requires-clause-webs g c =

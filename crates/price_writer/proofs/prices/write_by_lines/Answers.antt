@@ -39,9 +39,11 @@ webs_of-requires g c = record {
 }
 
 pub list_numbers-requires : goal.list_numbers-requires
-list_numbers-requires g c =
-    same_webs c.deref-2.result.now c.deref-3.result.now c.in_ok-webs.webs.items c.deref-4.result.now
-    (c.deref-2.ensures.value ∙ sym c.deref-3.ensures.value) (sym c.deref-4.ensures.value) c.in_ok-webs.ensures
+list_numbers-requires g c = (
+  c.type_bounds.sync-R,
+  same_webs c.deref-2.result.now c.deref-3.result.now c.in_ok-webs.webs.items c.deref-4.result.now
+      (c.deref-2.ensures.value ∙ sym c.deref-3.ensures.value) (sym c.deref-4.ensures.value) c.in_ok-webs.ensures,
+)
 
 pub list_floors-requires-clause-webs : goal.list_floors-requires-clause-webs
 list_floors-requires-clause-webs g c =

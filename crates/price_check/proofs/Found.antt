@@ -1,0 +1,82 @@
+-- What is found of each number side by side stands in their order (`each_found`), so numbers of each
+-- list that are worked so are its own (`numbers_are`).
+use Rattle.std.proofs.Common.{◌≡◌, ℕ, zero, suc, ◌+◌, List, [], ◌∷◌, Option, Some, Result, Ok, Err, arith, get_or, length, map, slice_get, ap, subst, sym, ◌∙◌}
+use Rattle.std.specs.Prelude.{IfOk, MatchResult, Vec}
+use Rattle.std.specs.List.{AllZip, Contains, range_with_len}
+use Rattle.std.specs.declared.alloc.Global.{Global}
+use Rattle.std.proofs.lemmas.List.{length-map}
+use Rattle.std.proofs.lemmas.List.FromFn.{get_or-range_with_len, length-range_with_len}
+use Rattle.std.proofs.lemmas.Option.{slice_get_within}
+use Rattle.std.proofs.lemmas.Slice.Zip.{AllZip-long}
+use Rattle.price_check.specs.declared.priced_list.PricedList.{PricedList}
+use Rattle.price_check.specs.Woven.{AreEachNumbers, AreNumbersAt}
+use Rattle.price_check.proofs.Webs.{some-same}
+use Rattle.priced_floors.specs.declared.kept.Kept.{Kept}
+use Rattle.priced_paths.specs.declared.web.Web.{Web}
+
+-- two facts of what is found give a third
+pub both_weaker : {X Y : Type 0} (r : Result X Y) (P Q S : X → Type 0) → ((x : X) → P x → Q x → S x) → IfOk r P → IfOk r Q
+    → IfOk r S
+both_weaker (Ok x) P Q S so p q = so x p q
+both_weaker (Err y) P Q S so p q = tt
+
+pub each_found : {X : Type 0} (E : Type 0) (R : ℕ → X → Type 0) (indices : List ℕ) (found : List X) (n : ℕ) (own : X)
+    → AllZip (λ j (r : Result X E). IfOk r (R j)) indices (map Ok found) → slice_get found n ≡ Some own
+    → R (get_or indices n 0) own
+each_found E R [] [] n own h e = cc
+each_found E R [] (x ∷ found) n own h e = absurd h
+each_found E R (i ∷ indices) [] n own h e = cc
+each_found E R (i ∷ indices) (x ∷ found) zero own h e = subst (R i) (some-same x own e) h.0
+each_found E R (i ∷ indices) (x ∷ found) (suc n) own h e = each_found E R indices found n own h.1 e
+
+pub numbers_are : (E : Type 0) (lists : List PricedList) (webs : List (Option (Web Kept))) (indices : List ℕ)
+    (given : List (Result (Vec (List (Option ℕ)) Global) E)) (found : List (Vec (List (Option ℕ)) Global))
+    → indices ≡ range_with_len 0 (length lists) → given ≡ map Ok found
+    → AllZip (λ j (r : Result (Vec (List (Option ℕ)) Global) E). IfOk r (AreNumbersAt lists webs j)) indices given
+    → AreEachNumbers lists webs found
+numbers_are E lists webs indices given found all same each =
+    let long : length indices ≡ length lists = ap length all ∙ length-range_with_len 0 (length lists) in
+    record {
+      whole = sym (length-map found Ok) ∙ ap length (sym same) ∙ AllZip-long _ indices given each ∙ long;
+      each = λ j it own there here.
+          let within = slice_get_within lists j it there in
+          let plain : 0 + j ≡ j = omega arith in
+          let number : get_or indices j 0 ≡ j = ap (λ xs. get_or xs j 0) all
+          ∙ get_or-range_with_len 0 (length lists) j 0 within ∙ plain in
+          let told = subst (λ rs. AllZip (λ i r. IfOk r (AreNumbersAt lists webs i)) indices rs) same each in
+          (subst (λ i. AreNumbersAt lists webs i own) number
+          (each_found E (AreNumbersAt lists webs) indices found j own told here)) it there;
+    }
+
+-- the same of what was collected, unless one was wanting
+pub all_numbers : (E : Type 0) (lists : List PricedList) (webs : List (Option (Web Kept))) (indices : List ℕ)
+    (given : List (Result (Vec (List (Option ℕ)) Global) E)) (result : Result (Vec (Vec (List (Option ℕ)) Global) Global) E)
+    → indices ≡ range_with_len 0 (length lists)
+    → AllZip (λ j (r : Result (Vec (List (Option ℕ)) Global) E). IfOk r (AreNumbersAt lists webs j)) indices given
+    → MatchResult result
+    (λ all. (own : List (Vec (List (Option ℕ)) Global)) × (given ≡ map Ok own) × (all.items ≡ own))
+    (λ e. Contains given (Err e))
+    → IfOk result (λ numbers. AreEachNumbers lists webs numbers.items)
+all_numbers E lists webs indices given (Ok found) all each m =
+    numbers_are E lists webs indices given found.items all (m.1 ∙ ap (map Ok) (sym m.2)) each
+all_numbers E lists webs indices given (Err e) all each m = tt
+
+-- the same by other names of the lists and the webs
+pub numbers_for : (E : Type 0) (lists ls : List PricedList) (webs ws : List (Option (Web Kept))) → ls ≡ lists → ws ≡ webs
+    → (indices : List ℕ) (given : List (Result (Vec (List (Option ℕ)) Global) E))
+    (result : Result (Vec (Vec (List (Option ℕ)) Global) Global) E)
+    → indices ≡ range_with_len 0 (length lists)
+    → AllZip (λ j (r : Result (Vec (List (Option ℕ)) Global) E). IfOk r (AreNumbersAt ls ws j)) indices given
+    → MatchResult result
+    (λ all. (own : List (Vec (List (Option ℕ)) Global)) × (given ≡ map Ok own) × (all.items ≡ own))
+    (λ e. Contains given (Err e))
+    → IfOk result (λ numbers. AreEachNumbers lists webs numbers.items)
+numbers_for E lists ls webs ws same also indices given result all each m =
+    all_numbers E lists webs indices given result all
+    (subst
+    (λ (l : List PricedList). AllZip (λ j (r : Result (Vec (List (Option ℕ)) Global) E). IfOk r (AreNumbersAt l webs j)) indices given)
+    same
+    (subst
+    (λ (w : List (Option (Web Kept))). AllZip (λ j (r : Result (Vec (List (Option ℕ)) Global) E). IfOk r (AreNumbersAt ls w j)) indices given)
+    also each))
+    m
