@@ -1,9 +1,13 @@
 //! Prices for several lists at once. No clause speaks of them.
 
+ghost use Rattle.std.specs.Prelude.{◌≡◌, ◌≤◌, length};
+ghost use Rattle.priced_floors.specs.Charges.{AreFairCharges, AreSmallCharges};
+ghost use Rattle.priced_floors.specs.declared.charges.TheConstants.{CASES, MOST_CHARGE, SCALE};
+
 use crate::keys::summit_keys;
 use crate::rounds::Bids;
 use crate::search::{plain_charges, room_for};
-use crate::woven::{Woven, weave_first};
+use crate::woven::{Woven, weave, weave_first};
 use fux_pitch::Memory;
 use open_ends::Keeps;
 use priced_floors::{Charges, Prices};
@@ -21,14 +25,41 @@ pub struct Tuned {
     pub lists: Vec<Vec<Prices>>,
 }
 
-/// Appends the prices for the beginning, and those for what comes behind a quarter, a half and
-/// three quarters of the least way. There are none where there are too many ways.
+/// Appends the prices that are found over the web that keeps least, from which others are sought.
+/// There are none where it can't be made, or has too many ways.
+fn put_first(
+    lists: &mut Vec<Vec<Prices>>,
+    alloc: Global,
+    space: &SpeciesSpace<'_>,
+    plain: &Charges,
+    bids: &mut Bids,
+    budget: u32,
+) -> Result<(), Memory>
+    requires fair { AreFairCharges plain.now space.now.sheet }
+    requires small { AreSmallCharges MOST_CHARGE plain.now }
+    requires scale { plain.now.scale ≡ SCALE }
+    requires few { length plain.now.summits.items ≤ CASES }
+{
+    let Some(least) = weave(alloc, space, Keeps::least(), plain, room_for(budget))? else {
+        return Ok(());
+    };
+    if least.ways.is_some() {
+        least.seek(alloc, plain, bids, budget)?;
+        lists.push(bids.prices(alloc)?)?;
+    }
+    Ok(())
+}
+
+/// Appends the prices for the beginning, those for what comes behind a quarter, a half and three
+/// quarters of the least way, and those that are raised for the later part. There are none where
+/// there are too many ways.
 fn put_lists(
     lists: &mut Vec<Vec<Prices>>,
     alloc: Global,
     woven: &Woven,
     plain: &Charges,
-    bids: &Bids,
+    bids: &mut Bids,
+    budget: u32,
 ) -> Result<(), Memory> {
     if woven.ways.is_none() {
         return Ok(());
@@ -39,11 +70,14 @@ fn put_lists(
             lists.push(prices)?;
         }
     }
+    woven.raise(alloc, plain, bids, budget)?;
+    lists.push(bids.prices(alloc)?)?;
     Ok(())
 }
 
 /// Prices for lists that keep as much as there is room for, sought in as many rounds as the budget
-/// allows. None where no web can be made.
+/// allows: those of each try of `best`, so that a certificate by them need not claim much more than
+/// such a try opens. None where no web can be made.
 pub fn tuned_prices(
     alloc: Global,
     space: &SpeciesSpace<'_>,
@@ -51,13 +85,14 @@ pub fn tuned_prices(
 ) -> Result<Option<Tuned>, Memory> {
     let plain = plain_charges(alloc, space)?;
     let mut bids = Bids::new(alloc, space.sheet(), &plain)?;
+    let mut lists = Vec::new(alloc);
+    put_first(&mut lists, alloc, space, &plain, &mut bids, budget)?;
     let most = [Keeps::all(), Keeps::runs_alone(), Keeps::turns_alone()];
     let Some(woven) = weave_first(alloc, space, &most, &plain, room_for(budget))? else {
         return Ok(None);
     };
-    woven.seek(alloc, &plain, &mut bids, budget)?;
-    let mut lists = Vec::new(alloc);
-    put_lists(&mut lists, alloc, &woven, &plain, &bids)?;
+    woven.seek_on(alloc, &plain, &mut bids, budget)?;
+    put_lists(&mut lists, alloc, &woven, &plain, &mut bids, budget)?;
     Ok(Some(Tuned {
         keeps: woven.keeps,
         voice: plain.voice,
