@@ -7,7 +7,8 @@
     python3 bench/certificates.py [PROGRAM] --changes    changed certificates, with their verdicts
 
 Run it at the top of the repository once the program is built. Times are processor seconds of whole processes, memory
-is the most that is held. It ends with 1 where a certificate isn't accepted, or a change comes to what it may not.
+is the most that is held, both as /usr/bin/time tells them. With --limit N a process that takes more than N seconds is
+stopped, and with --only WORD only groups whose names have the word are measured. It ends with 1 where a certificate isn't accepted, or a change comes to what it may not.
 """
 import collections
 import glob
@@ -22,19 +23,26 @@ TOP = os.path.dirname(os.path.dirname(os.path.abspath(__file__)))
 SMALL = ("fux 1\nmode dorian\nvoices 2\nbars 4\nspecies 3 voice 1\ncantus 0 D4 F4 E4 D4\n"
          "range 1 C5 E5\n")
 
+LIMIT = 3600
+if "--limit" in sys.argv:
+    LIMIT = int(sys.argv[sys.argv.index("--limit") + 1])
+
+ONLY = sys.argv[sys.argv.index("--only") + 1] if "--only" in sys.argv else ""
+
 Run = collections.namedtuple("Run", "status out err seconds kilobytes")
 
 
 def run(*words):
-    """A whole process, by itself so that what it takes is its own."""
-    with tempfile.TemporaryFile() as out, tempfile.TemporaryFile() as err:
-        child = subprocess.Popen(words, stdin=subprocess.DEVNULL, stdout=out, stderr=err)
-        _, code, use = os.wait4(child.pid, 0)
-        child.returncode = os.waitstatus_to_exitcode(code)
+    """A whole process. It is begun by a small one, since what its parent held counts as its own."""
+    with tempfile.NamedTemporaryFile() as told, tempfile.TemporaryFile() as out, tempfile.TemporaryFile() as err:
+        timed = ("/usr/bin/time", "-q", "-f", "%U %S %M", "-o", told.name)
+        code = subprocess.call((*timed, "timeout", str(LIMIT), *words), stdin=subprocess.DEVNULL, stdout=out, stderr=err)
         out.seek(0)
         err.seek(0)
-        return Run(child.returncode, out.read(), err.read().decode(),
-                   use.ru_utime + use.ru_stime, use.ru_maxrss)
+        user, system, kilobytes = told.read().split()[-3:]
+        if code == 124:
+            return Run(code, b"", f"stopped after {LIMIT} s", float(user) + float(system), int(kilobytes))
+        return Run(code, out.read(), err.read().decode(), float(user) + float(system), int(kilobytes))
 
 
 # ---- exercises
@@ -105,6 +113,8 @@ def table(program, folder):
     print("| Exercise | Verdict | Bytes | Lists | Claims | Write, s | MB | Check, s | MB |")
     print("|---|---|---|---|---|---|---|---|---|")
     for group, name, text in exercises(program):
+        if ONLY not in group:
+            continue
         got, wrote = measured(program, folder, text, 3)
         all_of = groups.setdefault(group, [])
         all_of.append(got)
@@ -139,6 +149,8 @@ def forms(program, folder):
     print("| Exercise | Form | Verdict | Bytes | Claims | Write, s | Check, s | MB |")
     print("|---|---|---|---|---|---|---|---|")
     for group, name, text in exercises(program):
+        if ONLY not in group:
+            continue
         second, _ = measured(program, folder, text, 2)
         if second is None:
             continue
@@ -396,7 +408,7 @@ def try_changes(program, folder):
 
 
 def main():
-    words = [it for it in sys.argv[1:] if not it.startswith("--")]
+    words = [it for k, it in enumerate(sys.argv) if k and "--" not in it and sys.argv[k - 1] not in ("--limit", "--only")]
     program = words[0] if words else f"{TOP}/crates/fux/out/fux"
     with tempfile.TemporaryDirectory() as folder:
         if "--changes" in sys.argv:
