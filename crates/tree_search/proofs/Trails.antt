@@ -3,7 +3,9 @@ use Rattle.std.proofs.Common.{◌≡◌, ℕ, ◌+◌, ◌<◌, ◌≤◌, ◌-�
 use Rattle.std.proofs.lemmas.Bool.{cases_lt}
 use Rattle.std.proofs.lemmas.List.{take-set-le, take_more_set, take_more, take-append-drop, length-take, length_push, get_or-set_same, get_or-set_other}
 use Rattle.tree_search.specs.Space.{FloorsGrow, HasChild, HasLiveChild}
-use Rattle.tree_search.specs.Trails.{AreEntriesOf, IsEntryOf, IsTrail, IsTrailTo}
+use Rattle.tree_search.specs.Trails.{AreEntriesOf, AreKept, HasPlaces, IsEntryOf, IsKept, IsPut, IsTrail, IsTrailTo, Leads, node_in}
+use Rattle.tree_search.specs.declared.trail.Nodes.{Nodes}
+use Rattle.tree_search.specs.declared.trail.Trail.{Trail}
 use Rattle.tree_search.specs.declared.links.Link.{Link}
 use Rattle.tree_search.specs.Links.{path_in, IsLinked}
 use Rattle.tree_search.proofs.Arena.{path_in-earlier, path_in-last, path_by_link}
@@ -17,6 +19,10 @@ pub is_there : (o : Option ℕ) (x : ℕ) → o ≡ Some x → IsSome o
 is_there None x e = cc
 is_there (Some y) x e = refl
 
+pub never_both : (o : Option ℕ) (x : ℕ) → o ≡ None → o ≡ Some x → ⊥
+never_both None x e f = cc
+never_both (Some y) x e f = cc
+
 -- a node with a live child has that child, and is of no leaf
 pub has_child : {is_at : List ℕ → Type 0} {live : List ℕ → Option ℕ} {width : List ℕ → ℕ} {height k : ℕ} →
     FloorsGrow live width height → HasLiveChild is_at live k → HasChild is_at height width k
@@ -25,26 +31,29 @@ has_child {live} {k} grows child =
     let parent = grows child.path k floor.0 floor.1 in
     record { path = child.path; at = child.at; above = parent.above; within = parent.within }
 
-pub IsTrail-step : {N : Type 0} (is_at : N → List ℕ → Type 0) (height : ℕ) (path : List ℕ) (nodes : List N)
-    (level k : ℕ) (child : N) →
-    level < height → IsTrail is_at height path nodes level → is_at child (take level path ++ k ∷ []) →
-    IsTrail is_at height (set path level k) (set nodes (level + 1) child) (level + 1)
-IsTrail-step {N} is_at height path nodes level k child above trail at = record {
+places_kept : {N : Type 0} {height level : ℕ} {old new : Nodes N} → AreKept old new level → HasPlaces height old
+    → HasPlaces height new
+places_kept kept places = record { even = kept.even ∙ places.even; odd = kept.odd ∙ places.odd }
+
+pub IsTrail-step : {N : Type 0} (is_at : N → List ℕ → Type 0) (height : ℕ) (path : List ℕ) (nodes nodes' : Nodes N)
+    (level k : ℕ) →
+    level < height → IsTrail is_at height path nodes level → AreKept nodes nodes' level
+    → ((d : N) → is_at (node_in nodes' (level + 1) d) (take level path ++ k ∷ []))
+    → IsTrail is_at height (set path level k) nodes' (level + 1)
+IsTrail-step {N} is_at height path nodes nodes' level k above trail kept at = record {
   path_long = length-set path level k ∙ trail.path_long;
-  nodes_long = length-set nodes (level + 1) child ∙ trail.nodes_long;
+  places = places_kept kept trail.places;
   within = omega arith;
   nodes_at = λ j d le. ⊎_elim
-      (λ less. subst (λ (p : List ℕ). is_at (get_or (set nodes (level + 1) child) j d) p)
+      (λ less. subst (λ (p : List ℕ). is_at (node_in nodes' j d) p)
       (sym (take-set-le j path level k (omega arith)))
-      (subst (λ (x : N). is_at x (take j path))
-      (sym (get_or-set_other nodes (level + 1) j child d (omega arith))) (trail.nodes_at j d (omega arith))))
+      (subst (λ (x : N). is_at x (take j path)) (sym (kept.same j d (omega arith)))
+      (trail.nodes_at j d (omega arith))))
       (λ more.
       let e : j ≡ level + 1 = omega (arith, le, more) in
-      subst (λ (i : ℕ). is_at (get_or (set nodes (level + 1) child) i d) (take i (set path level k))) (sym e)
-      (subst (λ (p : List ℕ). is_at (get_or (set nodes (level + 1) child) (level + 1) d) p)
-      (sym (take_more_set path level k (omega (arith, trail.path_long))))
-      (subst (λ (x : N). is_at x (take level path ++ k ∷ []))
-      (sym (get_or-set_same nodes (level + 1) child d (omega (arith, trail.nodes_long)))) at)))
+      subst (λ (i : ℕ). is_at (node_in nodes' i d) (take i (set path level k))) (sym e)
+      (subst (λ (p : List ℕ). is_at (node_in nodes' (level + 1) d) p)
+      (sym (take_more_set path level k (omega (arith, trail.path_long)))) (at d)))
       (cases_lt j (level + 1));
 }
 
@@ -71,7 +80,7 @@ parent_live {live} grows links entry d linked some within is =
 
 -- a path with a live child is not a leaf's
 pub above_child : {N : Type 0} {is_at : N → List ℕ → Type 0} {live : List ℕ → Option ℕ} {width : List ℕ → ℕ}
-    {height : ℕ} {path : List ℕ} {nodes : List N} {level : ℕ} →
+    {height : ℕ} {path : List ℕ} {nodes : Nodes N} {level : ℕ} →
     FloorsGrow live width height → IsTrail is_at height path nodes level → (k : ℕ)
     → IsSome (live (take level path ++ k ∷ [])) → level < height
 above_child {live} {path} {level} grows trail k is =
@@ -85,10 +94,10 @@ above_child {live} {path} {level} grows trail k is =
     )
 
 -- the node at the level, as it is read
-pub node_at : {N : Type 0} {is_at : N → List ℕ → Type 0} {height : ℕ} {path : List ℕ} {nodes : List N} {level : ℕ} →
-    IsTrail is_at height path nodes level → (node : N) → node ≡ get_or nodes level node
+pub node_there : {N : Type 0} {is_at : N → List ℕ → Type 0} {height : ℕ} {path : List ℕ} {nodes : Nodes N}
+    {level : ℕ} → IsTrail is_at height path nodes level → (node : N) → node ≡ node_in nodes level node
     → is_at node (take level path)
-node_at {N} {is_at} {path} {level} trail node read =
+node_there {N} {is_at} {path} {level} trail node read =
     subst (λ (x : N). is_at x (take level path)) (sym read) (trail.nodes_at level node (omega arith))
 
 -- a child more: its entry stands behind the others
@@ -118,7 +127,7 @@ root-step : (entries : List ℕ) (level number : ℕ) → ((d : ℕ) → get_or 
 root-step entries level number root d = get_or-set_other entries (level + 1) 0 number d (omega arith) ∙ root d
 
 module _ {N : Type 0} {is_at : N → List ℕ → Type 0} {height : ℕ} {links : List Link} {path : List ℕ}
-    {nodes : List N} {entries : List ℕ} {level entry : ℕ}
+    {nodes : Nodes N} {entries : List ℕ} {level entry : ℕ}
     (trail : IsTrailTo is_at height links path nodes entries level entry) where
   -- no further than a level, to the entry that is read there
   pub trail_up : (level' : ℕ) → level' ≤ level → (number : ℕ) → number ≡ get_or entries level' number
@@ -129,7 +138,7 @@ module _ {N : Type 0} {is_at : N → List ℕ → Type 0} {height : ℕ} {links 
       record {
         trail = record {
           path_long = trail.trail.path_long;
-          nodes_long = trail.trail.nodes_long;
+          places = trail.trail.places;
           within = omega (arith, trail.trail.within, le);
           nodes_at = λ j e less. trail.trail.nodes_at j e (omega (arith, less, le));
         };
@@ -157,7 +166,7 @@ module _ {N : Type 0} {is_at : N → List ℕ → Type 0} {height : ℕ} {links 
   })
 
   -- on to the entry of a child
-  pub trail_on : (k number : ℕ) (path' : List ℕ) (nodes' : List N) (entries' : List ℕ) (level' : ℕ) → level < height
+  pub trail_on : (k number : ℕ) (path' : List ℕ) (nodes' : Nodes N) (entries' : List ℕ) (level' : ℕ) → level < height
       → IsTrail is_at height path' nodes' level' → path' ≡ set path level k
       → entries' ≡ set entries (level + 1) number → level' ≡ level + 1 → number ≤ length links
       → path_in links number ≡ path_in links entry ++ k ∷ []
@@ -177,16 +186,17 @@ module _ {N : Type 0} {is_at : N → List ℕ → Type 0} {height : ℕ} {links 
       }
 
 module _ {N : Type 0} {is_at : N → List ℕ → Type 0} {height : ℕ} {links : List Link} {path : List ℕ}
-    {nodes : List N} {entries : List ℕ} {level entry : ℕ}
+    {nodes : Nodes N} {entries : List ℕ} {level entry : ℕ}
     (trail : IsTrailTo is_at height links path nodes entries level entry) (above : level < height) (k : ℕ) (child : N)
-    (at : is_at child (path_in links entry ++ k ∷ [])) where
-  stepped : IsTrail is_at height (set path level k) (set nodes (level + 1) child) (level + 1)
-  stepped = IsTrail-step is_at height path nodes level k child above trail.trail
-      (subst (λ (p : List ℕ). is_at child (p ++ k ∷ [])) (sym trail.leads) at)
+    (at : is_at child (path_in links entry ++ k ∷ [])) (nodes' : Nodes N) (put : IsPut nodes nodes' level child) where
+  stepped : IsTrail is_at height (set path level k) nodes' (level + 1)
+  stepped = IsTrail-step is_at height path nodes nodes' level k above trail.trail put.kept
+      (λ d. subst (λ (x : N). is_at x (take level path ++ k ∷ [])) (sym (put.own d))
+      (subst (λ (p : List ℕ). is_at child (p ++ k ∷ [])) (sym trail.leads) at))
 
-  module _ (links' : List Link) (path' : List ℕ) (nodes' : List N) (entries' : List ℕ) (number : ℕ)
+  module _ (links' : List Link) (path' : List ℕ) (entries' : List ℕ) (number : ℕ)
       (a : links' ≡ links ++ record { parent = entry; child = k } ∷ [])
-      (b : path' ≡ set path level k) (d : nodes' ≡ set nodes (level + 1) child)
+      (b : path' ≡ set path level k)
       (e : entries' ≡ set entries (level + 1) number) (f : number ≡ length links') where
     last : number ≡ length links + 1
     last = f ∙ ap (λ (ls : List Link). length ls) a ∙ length_push links (record { parent = entry; child = k })
@@ -209,10 +219,10 @@ module _ {N : Type 0} {is_at : N → List ℕ → Type 0} {height : ℕ} {links 
 
     -- the trail still leads to the parent
     pub trail_parent : IsTrailTo is_at height links' path' nodes' entries' level entry
-    trail_parent = rw (a, b, d, e) (record {
+    trail_parent = rw (a, b, e) (record {
       trail = record {
         path_long = stepped.path_long;
-        nodes_long = stepped.nodes_long;
+        places = stepped.places;
         within = omega arith;
         nodes_at = λ j x le. stepped.nodes_at j x (omega arith);
       };
@@ -228,7 +238,7 @@ module _ {N : Type 0} {is_at : N → List ℕ → Type 0} {height : ℕ} {links 
     pub trail_child : (level' entry' : ℕ) → level' ≡ level + 1 → entry' ≡ number
         → IsTrailTo is_at height links' path' nodes' entries' level' entry'
     trail_child level' entry' g h =
-        rw (a, b, d, e, g, h) (record {
+        rw (a, b, e, g, h) (record {
           trail = stepped;
           entries_long = length-set entries (level + 1) number ∙ trail.entries_long;
           root = root-step entries level number trail.root;
@@ -241,14 +251,14 @@ module _ {N : Type 0} {is_at : N → List ℕ → Type 0} {height : ℕ} {links 
 
 -- the node of the entry, as it is read
 pub node_of : {N : Type 0} {is_at : N → List ℕ → Type 0} {height : ℕ} {links : List Link} {path : List ℕ}
-    {nodes : List N} {entries : List ℕ} {level entry : ℕ} →
-    IsTrailTo is_at height links path nodes entries level entry → (node : N) → node ≡ get_or nodes level node
+    {nodes : Nodes N} {entries : List ℕ} {level entry : ℕ} →
+    IsTrailTo is_at height links path nodes entries level entry → (node : N) → node ≡ node_in nodes level node
     → is_at node (path_in links entry)
-node_of {is_at} trail node read = subst (λ (p : List ℕ). is_at node p) trail.leads (node_at trail.trail node read)
+node_of {is_at} trail node read = subst (λ (p : List ℕ). is_at node p) trail.leads (node_there trail.trail node read)
 
 -- the level is how long the path is
 pub level_is : {N : Type 0} {is_at : N → List ℕ → Type 0} {height : ℕ} {links : List Link} {path : List ℕ}
-    {nodes : List N} {entries : List ℕ} {level entry : ℕ} →
+    {nodes : Nodes N} {entries : List ℕ} {level entry : ℕ} →
     IsTrailTo is_at height links path nodes entries level entry → length (path_in links entry) ≡ level
 level_is {path} {level} trail =
     omega (
@@ -258,3 +268,44 @@ level_is {path} {level} trail =
       trail.trail.path_long,
       trail.trail.within,
     )
+
+-- a trail that is kept leads where it led
+trail_kept : {N : Type 0} {is_at : N → List ℕ → Type 0} {height : ℕ} {links : List Link} {old new : Trail N}
+    {level entry below : ℕ} → IsKept old new below
+    → ((k : ℕ) (d : N) → k ≤ level → node_in new.nodes k d ≡ node_in old.nodes k d)
+    → IsTrailTo is_at height links old.path.items old.nodes old.entries.items level entry
+    → IsTrailTo is_at height links new.path.items new.nodes new.entries.items level entry
+trail_kept {N} {is_at} {old} kept same trail = rw (kept.same_path, kept.same_entries) (record {
+  trail = record {
+    path_long = trail.trail.path_long;
+    places = places_kept kept.nodes trail.trail.places;
+    within = trail.trail.within;
+    nodes_at = λ j d le. subst (λ (x : N). is_at x (take j old.path.items)) (sym (same j d le))
+        (trail.trail.nodes_at j d le);
+  };
+  entries_long = trail.entries_long;
+  root = trail.root;
+  earlier = trail.earlier;
+  entry_within = trail.entry_within;
+  leads = trail.leads;
+})
+
+pub parent_kept : {N : Type 0} {is_at : N → List ℕ → Type 0} {height : ℕ} {links : List Link} {old new : Trail N}
+    {level entry : ℕ} → IsKept old new level
+    → IsTrailTo is_at height links old.path.items old.nodes old.entries.items level entry
+    → IsTrailTo is_at height links new.path.items new.nodes new.entries.items level entry
+parent_kept kept trail = trail_kept kept kept.nodes.same trail
+
+pub leads_kept : {N : Type 0} {is_at : N → List ℕ → Type 0} {height : ℕ} {links : List Link} {old new : Trail N}
+    {level : ℕ} → IsKept old new level → Leads is_at height links old → Leads is_at height links new
+leads_kept kept trail = rw (kept.same_level, kept.same_entry) (trail_kept kept kept.further trail)
+
+-- what was made below the level is made below the entry
+pub made_below : {N : Type 0} {is_at : N → List ℕ → Type 0} {height : ℕ} {links : List Link} {path : List ℕ}
+    {nodes : Nodes N} {entries : List ℕ} {level entry : ℕ} →
+    IsTrailTo is_at height links path nodes entries level entry
+    → (live : List ℕ → Option ℕ) (k : ℕ) (made : N) (floor : ℕ)
+    → is_at made (take level path ++ k ∷ []) × (live (take level path ++ k ∷ []) ≡ Some floor)
+    → is_at made (path_in links entry ++ k ∷ []) × (live (path_in links entry ++ k ∷ []) ≡ Some floor)
+made_below {is_at} trail live k made floor is =
+    subst (λ (p : List ℕ). is_at made (p ++ k ∷ []) × (live (p ++ k ∷ []) ≡ Some floor)) trail.leads is

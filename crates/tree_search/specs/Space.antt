@@ -31,12 +31,16 @@ abbrev pub IsFoundChild : {N : Type 0} → (N → List ℕ → Type 0) → (List
 IsFoundChild is_at live child node found =
     (path : List ℕ) → is_at node path → IsFoundAt is_at live (path ++ child ∷ []) found
 
--- the child of this number has the floor that was found, and the node that was made stands for it;
--- where none was found it is dead
+-- the path has the floor that was found, and the node that was made stands for it; where none was
+-- found no live node is there
+abbrev pub IsMadeAt : {N : Type 0} → (N → List ℕ → Type 0) → (List ℕ → Option ℕ) → List ℕ → N → Option ℕ → Type 0
+IsMadeAt is_at live path made found =
+    MatchOption found (live path ≡ None) (λ floor. is_at made path × (live path ≡ Some floor))
+
+-- so it is of the child of this number, whatever path the node stands for
 abbrev pub IsMadeChild : {N : Type 0} → (N → List ℕ → Type 0) → (List ℕ → Option ℕ) → ℕ → N → N → Option ℕ → Type 0
 IsMadeChild is_at live child node made found =
-    (path : List ℕ) → is_at node path → MatchOption found (live (path ++ child ∷ []) ≡ None)
-    (λ floor. is_at made (path ++ child ∷ []) × (live (path ++ child ∷ []) ≡ Some floor))
+    (path : List ℕ) → is_at node path → IsMadeAt is_at live (path ++ child ∷ []) made found
 
 -- wherever the child of this number is live, the node that was made stands for it, and this is its
 -- floor

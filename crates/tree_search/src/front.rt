@@ -18,7 +18,7 @@ use crate::links::Link;
 use crate::outcome::Numbered;
 use crate::queue::Queue;
 use crate::space::Space;
-use crate::trail::{Trail, go_to, place, start_trail};
+use crate::trail::{Trail, go_to, make_child, node_at, place, start_trail};
 use fux_pitch::Memory;
 use std::alloc::Global;
 
@@ -159,13 +159,13 @@ fn take_child<S: Space>(
         entry,
         count,
     } = opened;
-    let Some(floor) = space.child_into(&trail.nodes[level], k, &mut trail.spare) else {
+    let Some(floor) = make_child(space, trail, level, k) else {
         return Some(k + 1);
     };
     if front.links.len() == budget as usize {
         return None;
     }
-    let next = next_after(space, &trail.nodes[level], k, count);
+    let next = next_after(space, node_at(&trail.nodes, level), k, count);
     let link = Link {
         parent: entry,
         child: k as u16,
@@ -201,7 +201,7 @@ fn open<S: Space>(space: &S, front: &mut Front, trail: &mut Trail<S::Node>, budg
 {
     let level = trail.level;
     let entry = trail.entry;
-    let count = space.count(&trail.nodes[level]);
+    let count = space.count(node_at(&trail.nodes, level));
     let opened = Opened {
         level,
         entry,
@@ -210,7 +210,7 @@ fn open<S: Space>(space: &S, front: &mut Front, trail: &mut Trail<S::Node>, budg
     let mut from = 0;
     let mut least = u64::MAX;
     while from < count {
-        let k = space.next_child(&trail.nodes[level], from, None);
+        let k = space.next_child(node_at(&trail.nodes, level), from, None);
         if k >= count {
             return true;
         }

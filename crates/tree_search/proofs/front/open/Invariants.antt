@@ -12,9 +12,9 @@ invariant-loop-from g l =
       within : l.from ≤ l.count;
       opening : IsOpen (space.live l.space) (space.height l.space) l.front l.entry l.from;
       parent : IsTrailTo (space.is_at l.space) (space.height l.space) l.front.links.items l.trail.path.items
-          l.trail.nodes.items l.trail.entries.items l.level l.entry;
+          l.trail.nodes l.trail.entries.items l.level l.entry;
       trail : IsTrailTo (space.is_at l.space) (space.height l.space) l.front.links.items l.trail.path.items
-          l.trail.nodes.items l.trail.entries.items l.trail.level l.trail.entry;
+          l.trail.nodes l.trail.entries.items l.trail.level l.trail.entry;
       same_path : path_in l.front.links.items l.entry ≡ path_in l.initial.front.links.items l.entry;
       room : HasRoom l.budget l.front;
       queue : IsQueue l.front.waiting;

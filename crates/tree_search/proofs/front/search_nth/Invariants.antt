@@ -11,7 +11,7 @@ invariant-pops g l =
     record {
       closed : (reached : ℕ) × IsClosed (space.live l.space) (space.height l.space) l.front reached;
       trail : IsTrailTo (space.is_at l.space) (space.height l.space) l.front.links.items l.trail.path.items
-          l.trail.nodes.items l.trail.entries.items l.trail.level l.trail.entry;
+          l.trail.nodes l.trail.entries.items l.trail.level l.trail.entry;
       room : HasRoom l.budget l.front;
       queue : IsQueue l.front.waiting;
       finds : IsFinds l.front.finds;
