@@ -4,3 +4,4 @@ pub mod LateLemmas
 pub mod LowerVoices
 pub mod Quiet
 pub mod RunLemmas
+pub mod WayLemmas

@@ -4,3 +4,4 @@ pub mod Clear
 pub mod InnerVoices
 pub mod Rows
 pub mod Runs
+pub mod Ways

@@ -1,35 +1,53 @@
 //! Q12: inner voices that move alike into a perfect interval.
 
-ghost use Rattle.std.specs.Prelude.{◌≡◌, ◌≤◌, if◌then◌else◌};
+ghost use Rattle.std.specs.Prelude.{◌≡◌, ◌≤◌, ◌&&◌, not, if◌then◌else◌};
+ghost use Rattle.rule_law.specs.Pairs as pairs;
 ghost use Rattle.motion_rules.specs.InnerVoices as words;
+ghost use Rattle.motion_rules.specs.Rows as rows;
 
 use crate::rows::are_outer;
+use crate::ways::{go_same_way, way_of};
 use fux_grid::{Cell, Exercise};
-use rule_law::move_into_perfect;
+use fux_pitch::Interval;
+use rule_law::sound_perfect;
 
-/// Whether two voices, but not the lowest with the highest, both rise or both fall into a perfect
-/// interval.
+/// Whether two voices that move so, but not the lowest with the highest, both rise or both fall into
+/// a perfect interval.
 #[inline(always)]
-fn inner_move_into_perfect(ex: &Exercise, before: &[Cell], now: &[Cell], v: u8, w: u8) -> bool
-    ensures { result ≡ words.inner_move_into_perfect ex.now before.now now.now v w }
+fn enter_perfect(
+    ex: &Exercise,
+    now: &[Cell],
+    one: Option<Interval>,
+    other: Option<Interval>,
+    v: u8,
+    w: u8,
+) -> bool
+    ensures { result ≡ (not (rows.are_outer ex.now v w)
+        && (pairs.go_same_way one other && pairs.sound_perfect now.now v w)) }
 {
-    !are_outer(ex, v, w) && move_into_perfect(before, now, v as usize, w as usize)
+    !are_outer(ex, v, w) && (go_same_way(one, other) && sound_perfect(now, v as usize, w as usize))
 }
 
 /// 1 where they do, else 0.
 #[inline(always)]
-fn pays(ex: &Exercise, before: &[Cell], now: &[Cell], v: u8, w: u8) -> u32
-    ensures value { result ≡ (if words.inner_move_into_perfect ex.now before.now now.now v w then 1
-        else 0) }
+fn pays(
+    ex: &Exercise,
+    now: &[Cell],
+    one: Option<Interval>,
+    other: Option<Interval>,
+    v: u8,
+    w: u8,
+) -> u32
+    ensures value { result ≡ (if not (rows.are_outer ex.now v w)
+        && (pairs.go_same_way one other && pairs.sound_perfect now.now v w) then 1 else 0) }
     ensures bound { result ≤ 1 }
 {
-    u32::from(inner_move_into_perfect(ex, before, now, v, w))
+    u32::from(enter_perfect(ex, now, one, other, v, w))
 }
 
 /// Q12: in three or four voices, how many pairs, but for the lowest with the highest voice, both
-/// rise or both fall into a perfect interval.
+/// rise or both fall into a perfect interval. How each voice moves is found once.
 #[inline(always)]
-#[tactic(auto, unfolding(rule_law::specs::Voices::voice_pairs))]
 pub fn inner_moves(ex: &Exercise, before: &[Cell], now: &[Cell]) -> u32
     ensures value { result ≡ words.inner_moves ex.now before.now now.now }
     ensures bound { result ≤ 6 }
@@ -37,10 +55,14 @@ pub fn inner_moves(ex: &Exercise, before: &[Cell], now: &[Cell]) -> u32
     if ex.voices < 3 {
         return 0;
     }
-    pays(ex, before, now, 0, 1)
-        + pays(ex, before, now, 0, 2)
-        + pays(ex, before, now, 0, 3)
-        + pays(ex, before, now, 1, 2)
-        + pays(ex, before, now, 1, 3)
-        + pays(ex, before, now, 2, 3)
+    let first = way_of(before, now, 0);
+    let second = way_of(before, now, 1);
+    let third = way_of(before, now, 2);
+    let fourth = way_of(before, now, 3);
+    pays(ex, now, first, second, 0, 1)
+        + pays(ex, now, first, third, 0, 2)
+        + pays(ex, now, first, fourth, 0, 3)
+        + pays(ex, now, second, third, 1, 2)
+        + pays(ex, now, second, fourth, 1, 3)
+        + pays(ex, now, third, fourth, 2, 3)
 }

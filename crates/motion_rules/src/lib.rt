@@ -8,6 +8,7 @@ mod inner_voices;
 mod motion;
 mod rows;
 mod runs;
+mod ways;
 
 pub use afterbeats::{breaks_afterbeat, differ, stays_near};
 pub use book::book_is_lawful;

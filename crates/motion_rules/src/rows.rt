@@ -4,11 +4,11 @@ ghost use Rattle.std.specs.Prelude.{◌≡◌, ◌≤◌, ◌∷◌, [], if◌th
 ghost use Rattle.rule_law.specs.Pairs as pairs;
 ghost use Rattle.motion_rules.specs.Rows as rows;
 
+use crate::ways::{go_same_way, way_of};
 use fux_grid::{Cell, Exercise, VoiceSet, cell_of};
-use fux_pitch::semitone;
+use fux_pitch::{Interval, semitone};
 use rule_law::{
-    Latest, both_move, equal_perfects, interval_of_cells, move_alike, move_into_perfect,
-    one_starts, pair_of,
+    Latest, both_move, equal_perfects, interval_of_cells, move_into_perfect, one_starts, pair_of,
 };
 
 /// S10: both voices sound, one starts a note, and the first sounds above the second.
@@ -64,28 +64,31 @@ pub(crate) fn outer_move_into_perfect(
     are_outer(ex, v, w) && move_into_perfect(before, now, v as usize, w as usize)
 }
 
-/// 1 where Q11 stands for two voices, else 0.
+/// 1 where Q11 stands for two voices that move so, else 0.
 #[inline(always)]
-fn alike(before: &[Cell], now: &[Cell], v: usize, w: usize) -> u32
-    ensures value { result ≡ (if pairs.move_alike before.now now.now v w then 1 else 0) }
+fn alike(one: Option<Interval>, other: Option<Interval>) -> u32
+    ensures value { result ≡ (if pairs.go_same_way one other then 1 else 0) }
     ensures bound { result ≤ 1 }
 {
-    u32::from(move_alike(before, now, v, w))
+    u32::from(go_same_way(one, other))
 }
 
-/// Q11.
+/// Q11. How each voice moves is found once.
 #[inline(always)]
-#[tactic(auto, unfolding(rule_law::specs::Voices::voice_pairs))]
 fn pairs_alike(before: &[Cell], now: &[Cell]) -> u32
     ensures value { result ≡ rows.pairs_alike before.now now.now }
     ensures bound { result ≤ 6 }
 {
-    alike(before, now, 0, 1)
-        + alike(before, now, 0, 2)
-        + alike(before, now, 0, 3)
-        + alike(before, now, 1, 2)
-        + alike(before, now, 1, 3)
-        + alike(before, now, 2, 3)
+    let first = way_of(before, now, 0);
+    let second = way_of(before, now, 1);
+    let third = way_of(before, now, 2);
+    let fourth = way_of(before, now, 3);
+    alike(first, second)
+        + alike(first, third)
+        + alike(first, fourth)
+        + alike(second, third)
+        + alike(second, fourth)
+        + alike(third, fourth)
 }
 
 /// Whether a rule is broken at a column, whose cells are `now`, after the column whose cells are
