@@ -48,15 +48,22 @@ fn is_lowest(column: &[Cell], v: usize) -> bool
     }
 }
 
-/// Whether two voices clash in a column.
+/// Whether two voices clash in a column. Which voice is the lowest is asked only of a fourth or a
+/// diminished fifth.
 pub fn is_clash(column: &[Cell], v: usize, w: usize) -> bool
     ensures { result ≡ terms.clash column.now v w }
 {
-    let either = is_lowest(column, v) || is_lowest(column, w);
-    match (cell_of(column, v).pitch(), cell_of(column, w).pitch()) {
-        (Some(p), Some(q)) => !is_consonant(interval_of(p, q), either),
-        _ => false,
+    let (Some(p), Some(q)) = (cell_of(column, v).pitch(), cell_of(column, w).pitch()) else {
+        return false;
+    };
+    let interval = interval_of(p, q);
+    if is_consonant(interval, true) {
+        return false;
     }
+    if !is_consonant(interval, false) {
+        return true;
+    }
+    is_lowest(column, v) || is_lowest(column, w)
 }
 
 /// Whether the voice clashes with no other.
