@@ -136,7 +136,7 @@ impl<'a> MenuView<'a> {
         if j >= self.columns.len() || k >= self.columns.len() {
             return 0;
         }
-        for v in 0..4 {
+        for v in 0..self.columns[j].len() {
             if !same_cell(cell_at(self.columns, j, v), cell_at(self.columns, k, v)) {
                 return v;
             }
