@@ -424,12 +424,11 @@ abbrev pub either_asked : Job → MixedJob → List Row → Option Task
 either_asked job other rows =
     first_of (codes "EX") rows >>= λ name. either_by name (first_of (codes "with") rows) job other
 
--- weighing the setting of an exercise, alone or against a search, or with the species that a list
--- names
+-- weighing the setting of an exercise, alone or against a search, and by its own species or with
+-- those that a list names
 abbrev pub weighing_with : Text → Option Text → Option Text → Option ℕ → Option Task
 weighing_with name sheet None against = Some (on_exercise name sheet (Weigh against))
-weighing_with name sheet (Some list) None = mixed_by name sheet list mixed.Weigh
-weighing_with name sheet (Some list) (Some budget) = None
+weighing_with name sheet (Some list) against = mixed_by name sheet list (mixed.Weigh against)
 
 abbrev pub weigh_asked : List Row → Option Task
 weigh_asked rows = do

@@ -58,8 +58,9 @@ pub enum MixedJob {
     Best { budget: u32 },
     /// The marks of its setting.
     Mark,
-    /// What its setting breaks and pays for.
-    Weigh,
+    /// What its setting breaks and pays for, and how far it is from the best, where a budget is
+    /// given to search for it.
+    Weigh { against: Option<u32> },
     /// The MusicXML document of its setting with the marks in red.
     MarkXml,
     /// The picture of its setting with the marks in red.

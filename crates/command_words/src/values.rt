@@ -677,8 +677,8 @@ fn against_of(word: Option<&str>, budget: Option<&str>) -> Option<Option<u32>>
     }
 }
 
-/// Weighing the setting of an exercise, alone or against a search, or with the species that a list
-/// names.
+/// Weighing the setting of an exercise, alone or against a search, and by its own species or with
+/// those that a list names.
 fn weighing_with<'a>(
     name: &'a str,
     sheet: Option<&'a str>,
@@ -694,10 +694,7 @@ fn weighing_with<'a>(
         let job = Job::Weigh { against };
         return Some(Command::Make(Making::OnExercise { name, sheet, job }));
     };
-    if against.is_some() {
-        return None;
-    }
-    mixed_by(name, sheet, list, MixedJob::Weigh)
+    mixed_by(name, sheet, list, MixedJob::Weigh { against })
 }
 
 /// `weigh`, on the exercise of a file.

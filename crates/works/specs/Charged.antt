@@ -16,7 +16,7 @@ use Rattle.works.specs.declared.searching.Found.{Found}
 use Rattle.works.specs.declared.searching.Found.TheVariants.{Best, Nothing, Spent}
 use Rattle.works.specs.declared.work.Output.{Output}
 use Rattle.works.specs.declared.work.Verdict.{Verdict}
-use Rattle.works.specs.Marked.{RefusesNoSetting, marks_verdict}
+use Rattle.works.specs.Marked.{marks_verdict}
 use Rattle.works.specs.Searched.{IsFoundSharply, IsNarrow}
 use Rattle.works.specs.Texts.{Work}
 
@@ -72,19 +72,15 @@ abbrev pub TellsWeighed : Option ℕ → Sheet → Exercise → Grid → Output 
 TellsWeighed None sheet ex = TellsWeighing ex sheet
 TellsWeighed (Some budget) sheet ex = TellsAgainst ex sheet budget
 
--- why `weigh` refuses an exercise: it has no setting, or where it is to be set against `best`, a
--- menu is too wide
-abbrev pub RefusesWeighing : Option ℕ → Exercise → Refusal → Type 0
-RefusesWeighing against ex NoSetting = ex.setting ≡ None
-RefusesWeighing (Some budget) ex (TooWide place count) = IsTooWide ex place count
-RefusesWeighing against ex _ = ⊥
+-- why `weigh` refuses an exercise by some rules: it has no setting, or where that is to be set
+-- against `best`, a menu is too wide
+abbrev pub RefusesWeighing : Option ℕ → Exercise → Exercise → Refusal → Type 0
+RefusesWeighing against ex rules NoSetting = ex.setting ≡ None
+RefusesWeighing (Some budget) ex rules (TooWide place count) = IsTooWide rules place count
+RefusesWeighing against ex rules _ = ⊥
 
--- `weigh` makes this of an exercise, over the sheet in use
-abbrev pub Weighs : Option ℕ → Sheet → Exercise → Work → Type 0
-Weighs against sheet ex (Ok output) = OfSetting ex (TellsWeighed against sheet ex) output
-Weighs against sheet ex (Err refusal) = RefusesWeighing against ex refusal
-
--- `weigh` makes this of an exercise by the rules of the mixed one, over the sheet in use
-abbrev pub WeighsMixed : Sheet → Exercise → Exercise → Work → Type 0
-WeighsMixed sheet ex mixed (Ok output) = OfSetting ex (TellsWeighing mixed sheet) output
-WeighsMixed sheet ex mixed (Err refusal) = RefusesNoSetting ex refusal
+-- `weigh` makes this of an exercise by the rules of one that differs at most by the species of its
+-- voices, over the sheet in use
+abbrev pub Weighs : Option ℕ → Sheet → Exercise → Exercise → Work → Type 0
+Weighs against sheet ex rules (Ok output) = OfSetting ex (TellsWeighed against sheet rules) output
+Weighs against sheet ex rules (Err refusal) = RefusesWeighing against ex rules refusal

@@ -19,7 +19,7 @@ use Rattle.works.specs.declared.refusal.Refusal.TheVariants.{With}
 use Rattle.works.specs.declared.work.Stop.{Stop}
 use Rattle.works.specs.declared.work.Stop.TheVariants.{Refused, Memory}
 use Rattle.works.specs.declared.work.Verdict.{Verdict}
-use Rattle.works.specs.Charged.{WeighsMixed}
+use Rattle.works.specs.Charged.{Weighs}
 use Rattle.works.specs.Composed.{IsComposition, TellsAs, TellsBest, TellsNone}
 use Rattle.works.specs.Marked.{RefusesNoSetting, TellsLines}
 use Rattle.works.specs.Rendered.{MarksPicture, MarksXml}
@@ -76,7 +76,7 @@ abbrev pub MakesOfMixed : MixedJob → Sheet → Exercise → Exercise → Work 
 MakesOfMixed (Compose budget) sheet ex mixed = ComposesMixed budget sheet ex mixed
 MakesOfMixed (Best budget) sheet ex mixed = ComposesMixedSharply budget sheet ex mixed
 MakesOfMixed Mark sheet ex mixed = MarksMixed ex mixed
-MakesOfMixed Weigh sheet ex mixed = WeighsMixed sheet ex mixed
+MakesOfMixed (Weigh against) sheet ex mixed = Weighs against sheet ex mixed
 MakesOfMixed MarkXml sheet ex mixed = MarksXml ex mixed
 MakesOfMixed Picture sheet ex mixed = MarksPicture ex mixed
 

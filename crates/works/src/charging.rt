@@ -1,10 +1,10 @@
 //! The command `weigh`.
 
-ghost use Rattle.std.specs.Prelude.{◌≡◌, ◌++◌, IfOk, OnOk, string_bytes};
+ghost use Rattle.std.specs.Prelude.{◌≡◌, ◌++◌, IfOk, IfSome, OnOk, string_bytes};
 ghost use Rattle.fux_grid.specs.Exercises.{IsComplete, IsValid};
 ghost use Rattle.fux_judge.specs.Penalties as penalties;
 ghost use Rattle.species_space.specs.Mixed.{IsMixed, exercise_of};
-ghost use Rattle.works.specs.Charged.{IsWeighed, Weighs, WeighsMixed, against_line, charges_verdict, difference_line};
+ghost use Rattle.works.specs.Charged.{IsWeighed, Weighs, against_line, charges_verdict, difference_line};
 ghost use Rattle.works.specs.Works.{Answers};
 
 use crate::refusal::Refusal;
@@ -119,38 +119,44 @@ fn output_beside(mut weighed: Weighed, found: &Found) -> Result<Output, Memory>
     Ok(output_of(weighed))
 }
 
-/// What the setting of an exercise breaks and pays for, over a sheet of weights; and how far its
-/// penalty is from the best, where there is a budget to search for it.
+/// What the setting of an exercise breaks and pays for by some rules, over a sheet of weights; and
+/// how far its penalty is from the best by them, where there is a budget to search for it.
 pub fn weigh<R: Threads + Sync>(
     rt: &R,
     alloc: Global,
     ex: &Exercise,
+    rules: &Exercise,
     sheet: &Sheet,
     against: Option<u32>,
 ) -> Result<Output, Stop>
-    requires { IsValid ex.now }
-    ensures { Answers (Weighs against sheet.now ex.now) result }
+    requires valid { IsValid rules.now }
+    requires complete { IfSome ex.now.setting (IsComplete rules.now) }
+    ensures { Answers (Weighs against sheet.now ex.now rules.now) result }
 {
     let Some(score) = &ex.setting else {
         return Err(Stop::Refused(Refusal::NoSetting));
     };
-    let weighed = weigh_score(alloc, ex, sheet, score)?;
+    let weighed = weigh_score(alloc, rules, sheet, score)?;
     let Some(budget) = against else {
         return Ok(output_of(weighed));
     };
-    let found = sharp_setting(rt, alloc, ex, sheet, budget)?;
+    let found = sharp_setting(rt, alloc, rules, sheet, budget)?;
     Ok(output_beside(weighed, &found)?)
 }
 
 /// What the setting of an exercise breaks and pays for by the rules of the mixed one, over a sheet
-/// of weights.
-pub fn weigh_mixed(alloc: Global, m: &Mixed<'_>, sheet: &Sheet) -> Result<Output, Stop>
+/// of weights; and how far its penalty is from the best by them, where there is a budget to search
+/// for it.
+pub fn weigh_mixed<R: Threads + Sync>(
+    rt: &R,
+    alloc: Global,
+    m: &Mixed<'_>,
+    sheet: &Sheet,
+    against: Option<u32>,
+) -> Result<Output, Stop>
     requires { IsMixed m.now }
-    ensures { Answers (WeighsMixed sheet.now m.now.ex.now (exercise_of m.now)) result }
+    ensures { Answers (Weighs against sheet.now m.now.ex.now (exercise_of m.now)) result }
 {
-    let Some(score) = &m.ex.setting else {
-        return Err(Stop::Refused(Refusal::NoSetting));
-    };
     let rules = mixed_as(m.ex, m.species);
-    Ok(output_of(weigh_score(alloc, &rules, sheet, score)?))
+    weigh(rt, alloc, m.ex, &rules, sheet, against)
 }

@@ -210,7 +210,7 @@ fn of_exercise<R: Threads + Sync>(
             compose_nth(rt, alloc, exercise, sheet, before, budget)
         }
         Job::Mark => mark(alloc, exercise),
-        Job::Weigh { against } => weigh(rt, alloc, exercise, sheet, against),
+        Job::Weigh { against } => weigh(rt, alloc, exercise, exercise, sheet, against),
         Job::Cantus => cantus(alloc, exercise),
         Job::CantusCharges => cantus_charged(alloc, exercise, priced),
         Job::Print { wrap } => print(alloc, exercise, wrap),

@@ -128,7 +128,7 @@ fn of_mixed<R: Threads + Sync>(
         MixedJob::Compose { budget } => compose_mixed(alloc, m, sheet, budget),
         MixedJob::Best { budget } => best_mixed(rt, alloc, m, sheet, budget),
         MixedJob::Mark => mark_mixed(alloc, m),
-        MixedJob::Weigh => weigh_mixed(alloc, m, sheet),
+        MixedJob::Weigh { against } => weigh_mixed(rt, alloc, m, sheet, against),
         MixedJob::MarkXml => mark_xml_mixed(alloc, m),
         MixedJob::Picture => picture_mixed(alloc, m),
     }
