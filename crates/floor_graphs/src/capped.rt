@@ -67,6 +67,8 @@ impl<'a, S: Space> Space for Capped<'a, S> {
 
     ghost is_at = { λ s. S.is_at s.space.now };
 
+    ghost is_told = { λ s. S.is_told s.space.now };
+
     ghost floors_grow = { λ s. capped_grows (S.live s.space.now) s.low s.high (S.width s.space.now) (S.height s.space.now)
         (S.floors_grow s.space.now) };
 
@@ -101,7 +103,7 @@ impl<'a, S: Space> Space for Capped<'a, S> {
 
     fn next_child(&self, node: &Self::Node, from: usize, best: Option<u64>) -> usize {
         if self.is_met(best) {
-            return usize::MAX;
+            return self.space.count(node);
         }
         self.space.next_child(node, from, self.best_below_cap(best))
     }

@@ -35,6 +35,8 @@ impl<'a, G: Guide> Space for Sharpened<'a, G> {
     ghost is_at = { λ s sharp path. G.Tree.is_at (G.tree s.guide.now) sharp.node path × G.stands s.guide.now sharp.place path
         × (sharpened (G.Tree.live (G.tree s.guide.now)) (G.sum s.guide.now) path ≡ Some sharp.floor) };
 
+    ghost is_told = { λ s sharp. G.Tree.is_told (G.tree s.guide.now) sharp.node };
+
     ghost floors_grow = { λ s. sharpened_grows (G.Tree.live (G.tree s.guide.now)) (G.sum s.guide.now)
         (G.Tree.width (G.tree s.guide.now)) (G.Tree.height (G.tree s.guide.now)) (G.Tree.floors_grow (G.tree s.guide.now)) };
 
@@ -54,9 +56,10 @@ impl<'a, G: Guide> Space for Sharpened<'a, G> {
     }
 
     fn child(&self, sharp: &Self::Node, k: usize) -> Option<(Self::Node, u64)> {
-        let mut child = *sharp;
-        let floor = self.child_into(sharp, k, &mut child)?;
-        Some((child, floor))
+        let (node, floor) = self.guide.space().child(&sharp.node, k)?;
+        let (place, sum) = self.guide.follow(&sharp.place, k, &node)?;
+        let floor = sharp.floor.max(floor).max(sum);
+        Some((Sharp { node, place, floor }, floor))
     }
 
     fn child_into(&self, sharp: &Self::Node, k: usize, child: &mut Self::Node) -> Option<u64> {

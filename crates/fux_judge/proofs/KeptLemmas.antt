@@ -210,13 +210,13 @@ module _ (p : List (List Cell)) (m : Moment) where
         ap found_in e ∙ left_out strict is_close rules_at_a_bar r (closeness_kept apart)
         ∙ at_a_bar before rules_at_a_bar refl
 
--- by the answers of the three tests
-pub fair_by_tests : (p : List (List Cell)) (m : Moment) → IsAfter p m → true
-    ≡ not (some_rough m.exercise.now (reverse p) m.column.now) → true
+-- by the answers of the tests
+pub fair_by_tests : (p : List (List Cell)) (m : Moment) → IsAfter p m
+    → some_rough m.exercise.now (reverse p) m.column.now ≡ false → true
     ≡ not (some_move_badly m.exercise.now m.before.now m.column.now) → true
     ≡ not (some_out_of_place m.exercise.now m.state.now.newest.len m.latest.pitches m.column.now) → IsFair p m
 fair_by_tests p m after smooth clear placed = record {
-  smooth = not_rough (some_rough m.exercise.now (reverse p) m.column.now) smooth;
+  smooth = smooth;
   clear = ap (λ b. some_move_badly m.exercise.now b m.column.now) (sym after.before)
       ∙ not_rough (some_move_badly m.exercise.now m.before.now m.column.now) clear;
   placed =

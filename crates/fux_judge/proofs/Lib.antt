@@ -23,6 +23,7 @@ pub mod QuietTolls
 pub mod RoughLemmas
 pub mod SetLemmas
 pub mod ShapeLemmas
+pub mod SmoothLemmas
 pub mod StateLemmas
 pub mod StepLemmas
 pub mod StepPlaces

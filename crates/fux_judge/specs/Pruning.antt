@@ -1,10 +1,11 @@
 -- How a few voices make a column dead, or cost too much, whatever cells the others have.
-use Rattle.std.specs.Prelude.{◌≡◌, ◌≤◌, ◌⊎◌, ℕ, ◌==◌, Bool, true, ◌&&◌, List, [], ◌∷◌, IsSomeAnd, IsTrue, Option, length, take}
+use Rattle.std.specs.Prelude.{◌≡◌, ◌<◌, ◌≤◌, ◌⊎◌, ℕ, ◌==◌, Bool, true, false, ◌&&◌, List, [], ◌∷◌, IsSomeAnd, IsTrue, Option, length, reverse, take}
 use Rattle.std.specs.List.{list_any}
 use Rattle.fux_grid.specs.declared.cell.Cell.{Cell}
 use Rattle.fux_grid.specs.declared.exercise.Exercise.{Exercise}
 use Rattle.fux_grid.specs.Columns.{Columns}
 use Rattle.rule_law.specs.Voices.{is_below}
+use Rattle.melody_rules.specs.Smooth.{is_rough_at}
 use Rattle.penalty_sheet.specs.declared.sheet.Sheet.{Sheet}
 use Rattle.fux_judge.specs.declared.moment.Moment.{Moment}
 use Rattle.fux_judge.specs.declared.state.State.{State}
@@ -52,3 +53,16 @@ abbrev pub PrunesWithin : ℕ → Exercise → Sheet → State → Option ℕ �
 PrunesWithin n ex sheet state limit col =
     (p : Columns) → IsStateOf ex p state → (other : List Cell) → length other ≡ ex.voices → take n other ≡ take n col
     → IsPruned ex sheet p limit other
+
+-- where nothing is relaxed, a voice breaks no rule of melody at the moment, after each prefix that
+-- it may come after
+abbrev pub IsSmoothAt : ℕ → Moment → Type 0
+IsSmoothAt v m =
+    m.exercise.now.relax ≡ [] → (p : List (List Cell)) → IsAfter p m
+    → is_rough_at m.exercise.now (reverse p) m.column.now v ≡ false
+
+-- where nothing is relaxed, none of the first voices of a column does, after whatever prefix the
+-- state is of
+abbrev pub IsSmoothWithin : ℕ → Exercise → State → List Cell → Type 0
+IsSmoothWithin n ex state col =
+    ex.relax ≡ [] → (p : Columns) → IsStateOf ex p state → (v : ℕ) → v < n → is_rough_at ex (reverse p) col v ≡ false

@@ -1,14 +1,14 @@
 //! Columns that are dead, or cost too much, by the cells of a few voices.
 
-ghost use Rattle.std.specs.Prelude.{◌≡◌, ◌≤◌, ◌<◌, ◌+◌, Some, IsSomeAnd, IsTrue, IfSome, length};
-ghost use Rattle.std.specs.Bool.{OnTrue};
+ghost use Rattle.std.specs.Prelude.{◌≡◌, ◌≤◌, ◌<◌, ◌+◌, ◌-◌, Some, IsSomeAnd, IsTrue, IfNone, IfSome, length};
+ghost use Rattle.std.specs.Bool.{OnTrue, OnFalse};
 ghost use Rattle.std.specs.List.{list_all};
 ghost use Rattle.fux_grid.specs.Columns.{Columns};
 ghost use Rattle.fux_grid.specs.Exercises.{IsValid, columns_in};
 ghost use Rattle.rule_law.specs.Voices.{voice_of as one_voice};
 ghost use Rattle.fux_judge.specs.Charges.{voice_charge};
 ghost use Rattle.fux_judge.specs.Moments.{IsAfter, IsReadable, pairs_then};
-ghost use Rattle.fux_judge.specs.Pruning.{IsDeadBy, IsDeadWithin, PrunesWithin, is_set_below, reads_below};
+ghost use Rattle.fux_judge.specs.Pruning.{IsDeadBy, IsDeadWithin, IsSmoothAt, IsSmoothWithin, PrunesWithin, is_set_below, reads_below};
 
 use crate::moment::Moment;
 use crate::reading::is_strictly_broken;
@@ -19,7 +19,7 @@ use fux_grid::{Column, Exercise, VoiceSet, cell_of};
 use melody_rules::is_smooth_in;
 use penalty_sheet::Sheet;
 use rhythm_cadence::leaves_last_shape;
-use rule_law::{is_quiet, pair_of, sound_perfect, starts, voice_of};
+use rule_law::{is_quiet, pair_of, sound_perfect, starts};
 
 /// The rules of one voice that starts a note.
 const WHERE_IT_STARTS: [u8; 7] = [4, 5, 26, 6, 7, 8, 9];
@@ -27,18 +27,33 @@ const WHERE_IT_STARTS: [u8; 7] = [4, 5, 26, 6, 7, 8, 9];
 /// The rules of two voices that both start a note.
 const WHERE_BOTH_START: [u8; 2] = [16, 17];
 
-/// The sets of a voice alone, and with each lower one, for each voice.
-const WITH_FIRST: [u8; 1] = [1];
+/// The sets of a voice with each lower one, for each voice.
+const WITH_FIRST: [u8; 0] = [];
 
-const WITH_SECOND: [u8; 2] = [2, 3];
+const WITH_SECOND: [u8; 1] = [3];
 
-const WITH_THIRD: [u8; 3] = [4, 5, 6];
+const WITH_THIRD: [u8; 2] = [5, 6];
 
-const WITH_FOURTH: [u8; 4] = [8, 9, 10, 12];
+const WITH_FOURTH: [u8; 3] = [9, 10, 12];
 
-/// The sets of a voice alone, and with each lower one.
+/// The set of a voice alone.
 #[inline]
-fn sets_with(voice: usize) -> &'static [u8]
+fn alone(voice: usize) -> VoiceSet
+    requires { voice < 4 }
+    ensures one { one_voice result.bits ≡ Some voice }
+    ensures below { IsTrue (is_set_below (voice + 1) result.bits) }
+{
+    match voice {
+        0 => VoiceSet { bits: 1 },
+        1 => VoiceSet { bits: 2 },
+        2 => VoiceSet { bits: 4 },
+        _ => VoiceSet { bits: 8 },
+    }
+}
+
+/// The sets of a voice with each lower one.
+#[inline]
+fn pairs_with(voice: usize) -> &'static [u8]
     requires { voice < 4 }
     ensures { IsTrue (list_all (is_set_below (voice + 1)) result.now) }
 {
@@ -70,7 +85,8 @@ fn breaks_alone(voice: u8, voices: VoiceSet, m: &Moment<'_>) -> bool
     requires low { voice < 4 }
     requires alone { one_voice voices.bits ≡ Some voice }
     requires readable { IsReadable m.now }
-    ensures { OnTrue result (IsDeadBy voices.bits m.now) }
+    ensures dead { OnTrue result (IsDeadBy voices.bits m.now) }
+    ensures smooth { OnFalse result (IsSmoothAt voice m.now) }
 {
     if is_smooth_in(m.exercise, &m.state.past.parts.first, m.column, voice) {
         return false;
@@ -94,18 +110,15 @@ fn breaks_together(lower: u8, upper: u8, voices: VoiceSet, m: &Moment<'_>) -> bo
         && breaks_one(&WHERE_BOTH_START, voices, m)
 }
 
-/// Whether a set of one voice or two breaks a rule strictly.
+/// Whether a set of two voices breaks a rule strictly.
 fn breaks_by(voices: VoiceSet, m: &Moment<'_>) -> bool
     requires readable { IsReadable m.now }
     ensures { OnTrue result (IsDeadBy voices.bits m.now) }
 {
-    if let Some((lower, upper)) = pair_of(voices) {
-        return breaks_together(lower, upper, voices, m);
-    }
-    let Some(voice) = voice_of(voices) else {
+    let Some((lower, upper)) = pair_of(voices) else {
         return false;
     };
-    breaks_alone(voice, voices, m)
+    breaks_together(lower, upper, voices, m)
 }
 
 /// Whether a voice leaves the last of the shapes that it may still have in its bar.
@@ -132,7 +145,8 @@ fn leaves_shapes(voice: usize, m: &Moment<'_>) -> bool
 fn breaks_with(voice: usize, m: &Moment<'_>) -> bool
     requires voice { voice < 4 }
     requires readable { IsReadable m.now }
-    ensures { OnTrue result (IsDeadWithin (voice + 1) m.now) }
+    ensures dead { OnTrue result (IsDeadWithin (voice + 1) m.now) }
+    ensures smooth { OnFalse result (IsSmoothAt voice m.now) }
 {
     if !starts(cell_of(m.column, voice)) {
         return false;
@@ -140,12 +154,29 @@ fn breaks_with(voice: usize, m: &Moment<'_>) -> bool
     if leaves_shapes(voice, m) {
         return true;
     }
-    for bits in sets_with(voice) {
+    if breaks_alone(voice as u8, alone(voice), m) {
+        return true;
+    }
+    for bits in pairs_with(voice) {
         if breaks_by(VoiceSet { bits: *bits }, m) {
             return true;
         }
     }
     false
+}
+
+/// The same of a voice that wasn't tried.
+#[inline]
+fn breaks_untried(voice: usize, tried: usize, m: &Moment<'_>) -> bool
+    requires voice { voice < 4 }
+    requires readable { IsReadable m.now }
+    ensures dead { OnTrue result (IsDeadWithin (voice + 1) m.now) }
+    ensures smooth { OnFalse result (tried ≤ voice → IsSmoothAt voice m.now) }
+{
+    if voice < tried {
+        return false;
+    }
+    breaks_with(voice, m)
 }
 
 /// Whether a cost reaches the limit, where there is one.
@@ -191,7 +222,9 @@ fn costs_too_much(limit: Option<u64>, least: u64, sheet: &Sheet, m: &Moment<'_>)
 /// where no such reason was found; there may be one all the same: what a column sounds isn't asked
 /// again, since `is_always_dead` tells of it. So many of the lowest voices as have been tried are
 /// only asked what they cost: whoever has asked them of an earlier column with the same cells
-/// spares the question. Whatever the number is, what is told holds. It takes no memory.
+/// spares the question. Whatever the number is, what is told of a column that is pruned holds; and
+/// where nothing is relaxed and the tried voices keep the rules of melody, so do those below the
+/// last one that prunes, and all where none does. It takes no memory.
 pub fn pruned_within(
     ex: &Exercise,
     sheet: &Sheet,
@@ -207,6 +240,10 @@ pub fn pruned_within(
     ensures few { IfSome result (λ n. n ≤ ex.now.voices) }
     ensures pruned { IfSome result (λ n. PrunesWithin n ex.now sheet.now state.now limit
         col.now.items) }
+    ensures sound { IsSmoothWithin tried ex.now state.now col.now.items
+        → IfSome result (λ n. IsSmoothWithin (n - 1) ex.now state.now col.now.items) }
+    ensures smooth { IsSmoothWithin tried ex.now state.now col.now.items
+        → IfNone result (IsSmoothWithin 4 ex.now state.now col.now.items) }
 {
     if is_quiet(state.newest.len, col.as_slice()) {
         return None;
@@ -219,7 +256,7 @@ pub fn pruned_within(
         if reaches(least, limit) {
             return Some(voice + 1);
         }
-        if voice >= tried && breaks_with(voice, &moment) {
+        if breaks_untried(voice, tried, &moment) {
             return Some(voice + 1);
         }
     }

@@ -1,6 +1,6 @@
 //! One column more, where it settles no strict break.
 
-ghost use Rattle.std.specs.Prelude.{◌≡◌, ◌≤◌, ◌<◌, ◌+◌, true, false, IfNone, IfSome, length};
+ghost use Rattle.std.specs.Prelude.{◌≡◌, ◌≤◌, ◌<◌, ◌+◌, true, false, IfNone, IfSome, IsTrue, length};
 ghost use Rattle.std.specs.List.{list_any};
 ghost use Rattle.fux_grid.specs.Exercises.{IsValid, columns_in};
 ghost use Rattle.rule_law.specs.Voices.{has_rule};
@@ -8,6 +8,7 @@ ghost use Rattle.fux_judge.specs.Gauges.{least_of};
 ghost use Rattle.fux_judge.specs.Late.{HaveNoPlace};
 ghost use Rattle.fux_judge.specs.Rules.{rules_at_once};
 ghost use Rattle.fux_judge.specs.Penalties.{newly_paid, settles_break};
+ghost use Rattle.fux_judge.specs.Pruning.{IsSmoothWithin};
 ghost use Rattle.fux_judge.specs.States.{IsStateOf};
 ghost use Rattle.fux_judge.specs.Verdicts.{GoingOn, Grown, GrownPrefix, PaysMore};
 
@@ -39,12 +40,14 @@ pub struct Price {
 }
 
 /// What a column that settles no strict break costs; none where it settles one, and then no more is
-/// read than tells so: nothing of late rules that are known to have no place there. The state of the
+/// read than tells so: nothing of late rules that are known to have no place there, and where it is
+/// told that no rule of melody is broken, and nothing is relaxed, none of melody. The state of the
 /// longer prefix is written into the place that is given.
 pub fn step_unbroken(
     ex: &Exercise,
     sheet: &Sheet,
     idle: RuleSet,
+    told: bool,
     state: &State,
     col: &Column,
     next: &mut State,
@@ -53,6 +56,7 @@ pub fn step_unbroken(
     requires room { state.now.newest.len < columns_in ex.now }
     requires full { length col.now.items ≡ ex.now.voices }
     requires idle { HaveNoPlace ex.now state.now.newest.len idle.bits }
+    requires told { IsTrue told → IsSmoothWithin 4 ex.now state.now col.now.items }
     ensures state { IfSome result (λ _. Grown ex.now state.now col.now.items
         (λ longer. IsStateOf ex.now longer next.new)) }
 
@@ -77,7 +81,7 @@ pub fn step_unbroken(
         return None;
     }
     let moment = moment_of(ex, state, col);
-    let (at_once, paid) = readings(sheet, &moment);
+    let (at_once, paid) = readings(sheet, &moment, told);
     if has_some(at_once) {
         return None;
     }

@@ -9,6 +9,7 @@ ghost use Rattle.fux_judge.specs.Gauges.{least_of};
 ghost use Rattle.fux_judge.specs.Rules.{all_sets, is_late, rules_at_once, rules_read};
 ghost use Rattle.fux_judge.specs.Penalties.{newly_paid, paid};
 ghost use Rattle.fux_judge.specs.Moments.{IsReadable, IsAfter, breaks_one_of, paid_at_once, prices_then};
+ghost use Rattle.fux_judge.specs.Pruning.{IsSmoothAt};
 ghost use Rattle.fux_judge.specs.States.{IsStateOf};
 ghost use Rattle.fux_judge.specs.Verdicts.{GoingOn, Grown, GrownPrefix, HasBroken, PaysMore};
 
@@ -99,6 +100,7 @@ pub(crate) fn moment_of<'a>(ex: &'a Exercise<'a>, state: &'a State, col: &'a Col
     ensures exercise { result.exercise.now ≡ ex.entry.now }
     ensures column { result.column.now ≡ col.entry.now.items }
     ensures place { result.state.now.newest.len ≡ state.entry.now.newest.len }
+    ensures state { result.state.now ≡ state.entry.now }
 {
     Moment {
         exercise: ex,
@@ -110,9 +112,10 @@ pub(crate) fn moment_of<'a>(ex: &'a Exercise<'a>, state: &'a State, col: &'a Col
 }
 
 /// The rules settled at once that the column breaks strictly, and what it costs of them and of such
-/// tolls. Where nothing begins, nothing is read.
-pub(crate) fn readings(sheet: &Sheet, m: &Moment<'_>) -> (RuleSet, u64)
-    requires { IsReadable m.now }
+/// tolls. Where nothing begins, nothing is read, and what is told of melody isn't asked.
+pub(crate) fn readings(sheet: &Sheet, m: &Moment<'_>, told: bool) -> (RuleSet, u64)
+    requires readable { IsReadable m.now }
+    requires told { IsTrue told → (v : ℕ) → v < 4 → IsSmoothAt v m.now }
     ensures broken { (p : List (List ACell)) → IsAfter p m.now → (r : ℕ)
         → has_rule result.0.bits r ≡ breaks_one_of rules_at_once p m.now r }
     ensures paid { (p : List (List ACell)) → IsAfter p m.now → result.1 ≡ paid_at_once sheet.now p
@@ -123,7 +126,7 @@ pub(crate) fn readings(sheet: &Sheet, m: &Moment<'_>) -> (RuleSet, u64)
         return (RuleSet::EMPTY, 0);
     }
     let paid = charges(sheet, m) + prices_of(all_at_once(), m);
-    (broken_of(rules_left(m), m), paid)
+    (broken_of(rules_left(m, told), m), paid)
 }
 
 /// What the column costs of the rules settled at once and of such tolls. Where nothing begins,
@@ -165,7 +168,7 @@ pub fn step(ex: &Exercise, sheet: &Sheet, state: &State, col: &Column) -> Verdic
     let moment = moment_of(ex, state, col);
     let mut next = *state;
     next.add(ex, col);
-    let (at_once, paid) = readings(sheet, &moment);
+    let (at_once, paid) = readings(sheet, &moment, false);
     let broken = with_late(at_once, ex, &next);
     let paid = paid + late_charges(sheet, ex, &next) + late_prices(ex, &next);
     let least = least(ex, sheet, &next);

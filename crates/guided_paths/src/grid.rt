@@ -150,6 +150,10 @@ mod tests {
         fn child(&self, node: &Spot, k: usize) -> Option<(Spot, u64)> {
             self.grid.child(node, k)
         }
+
+        fn next_child(&self, _node: &Spot, from: usize, _best: Option<u64>) -> usize {
+            from
+        }
     }
 
     #[derive(Clone, Copy)]

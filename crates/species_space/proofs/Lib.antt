@@ -8,5 +8,6 @@ pub mod NamingLemmas
 pub mod Passing
 pub mod PathSteps
 pub mod ScoreSteps
+pub mod Smooth
 pub mod Trees
 pub mod WalkSteps

@@ -113,3 +113,7 @@ abbrev pub PassesDead : MenuView → List Cell → ℕ → ℕ → Type 0
 PassesDead menu before from to =
     (ex : Exercise) (i : ℕ) → SkipDead ex i (columns_seen menu) menu.undead.now
     → (k : ℕ) → from ≤ k → k < to → StraysOrDies ex i before (slice_index_or (columns_seen menu) k [])
+
+-- two columns have the same cells in so many of the lowest voices
+abbrev pub AreAlike : ℕ → List Cell → List Cell → Type 0
+AreAlike n col other = (v : ℕ) → v < n → v < length col → cell_in col v ≡ cell_in other v

@@ -1,12 +1,16 @@
 -- What stands for a path while a search is there.
-use Rattle.std.specs.Prelude.{◌≡◌, ℕ, ◌*◌, ◌≤◌, Bool, true, List, Option, length, reverse}
+use Rattle.std.specs.Prelude.{◌≡◌, ℕ, ◌*◌, ◌≤◌, Bool, true, List, [], Option, length, reverse, slice_index_or}
 use Rattle.fux_grid.specs.declared.cell.Cell.{Cell}
 use Rattle.fux_grid.specs.declared.exercise.Exercise.{Exercise}
 use Rattle.fux_grid.specs.Columns.{newest_column}
+use Rattle.fux_grid.specs.Menus.{menu_of}
 use Rattle.penalty_sheet.specs.declared.sheet.Sheet.{Sheet}
 use Rattle.fux_judge.specs.Gauges.{least_of}
 use Rattle.fux_judge.specs.Penalties.{paid}
+use Rattle.fux_judge.specs.Pruning.{IsSmoothWithin}
 use Rattle.fux_judge.specs.States.{IsStateOf}
+use Rattle.species_space.specs.Blocks.{columns_seen}
+use Rattle.species_space.specs.declared.blocks.MenuView.{MenuView}
 use Rattle.species_space.specs.declared.node.Node.{Node}
 use Rattle.species_space.specs.Paths.{ArePassed, IsNoBetter, prefix_at, is_alive_path}
 
@@ -34,3 +38,12 @@ PassesOver chained ex sheet node best from to =
 abbrev pub ComesBefore : Exercise → Sheet → Node → List Cell → Type 0
 ComesBefore ex sheet node before =
     (path : List ℕ) → IsNodeOf ex sheet node path → before ≡ newest_column (reverse (prefix_at ex path))
+
+-- what is told of the child of a number: where nothing is relaxed, its column breaks no rule of
+-- melody behind the node's prefix
+abbrev pub IsTold : Exercise → Node → ℕ → Type 0
+IsTold ex node k = IsSmoothWithin 4 ex node.state (slice_index_or (menu_of ex node.state.newest.len) k [])
+
+-- so it is of the first cells of the column of a number in a menu
+abbrev pub IsSmoothIn : ℕ → Exercise → Node → MenuView → ℕ → Type 0
+IsSmoothIn n ex node menu k = IsSmoothWithin n ex node.state (slice_index_or (columns_seen menu) k [])

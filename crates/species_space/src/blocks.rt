@@ -6,7 +6,7 @@ ghost use Rattle.fux_grid.specs.Cells.{cell_follows, cell_in};
 ghost use Rattle.fux_grid.specs.Columns.{ColumnFollows};
 ghost use Rattle.fux_grid.specs.Grid.{items_of};
 ghost use Rattle.fux_grid.specs.Menus.{IsAscending};
-ghost use Rattle.species_space.specs.Blocks.{Agree, AreBlocksOf, HasOneWidth, IsNumberAt, IsBlockEnd, IsCut, IsHeldNext, IsNext, IsOnlyHolds, IsWithoutHolds, KeepsCell, columns_seen, same_cell};
+ghost use Rattle.species_space.specs.Blocks.{Agree, AreAlike, AreBlocksOf, HasOneWidth, IsNumberAt, IsBlockEnd, IsCut, IsHeldNext, IsNext, IsOnlyHolds, IsWithoutHolds, KeepsCell, columns_seen, same_cell};
 
 use fux_grid::{Cell, Column, cell_of, cells_follow};
 use rule_law::{RuleSet, begins_bar};
@@ -132,11 +132,14 @@ impl<'a> MenuView<'a> {
     }
 
     /// In how many of the lowest voices two columns are known to have the same cells.
-    pub fn lowest_alike(&self, j: usize, k: usize) -> usize {
+    pub fn lowest_alike(&self, j: usize, k: usize) -> usize
+        ensures { AreAlike result (slice_index_or (columns_seen self.now) j [])
+            (slice_index_or (columns_seen self.now) k []) }
+    {
         if j >= self.columns.len() || k >= self.columns.len() {
             return 0;
         }
-        for v in 0..self.columns[j].len() {
+        for v in 0..column_at(self.columns, j).len() {
             if !same_cell(cell_at(self.columns, j, v), cell_at(self.columns, k, v)) {
                 return v;
             }

@@ -1,13 +1,16 @@
 //! The tree of the settings of an exercise whose free voices have a species each.
 
-ghost use Rattle.std.specs.Prelude.{◌≡◌, ◌<◌, ◌≤◌, [], OnOk, IfOk, IfErr, length, slice_index_or};
+ghost use Rattle.std.specs.Prelude.{◌≡◌, ◌<◌, ◌≤◌, [], OnOk, IfOk, IfErr, IsTrue, false, length, slice_index_or};
 ghost use Rattle.fux_grid.specs.Exercises.{IsValid, columns_in};
 ghost use Rattle.fux_grid.specs.Grid.{items_of};
 ghost use Rattle.fux_grid.specs.Menus.{menu_of};
 ghost use Rattle.floor_tables.specs.Tables.{AreNarrow, TellsWidth};
 ghost use Rattle.fux_judge.specs.Late.{HaveNoPlace};
 ghost use Rattle.species_space.specs.Mixed.{IsMixed, exercise_of};
+ghost use Rattle.species_space.specs.Nodes.{IsNodeOf, IsTold};
+ghost use Rattle.species_space.specs.Paths.{live_with, width_at};
 ghost use Rattle.species_space.specs.Task.{IsViewOf};
+ghost use Rattle.tree_search.specs.Space.{HasChild, IsMadeChild};
 
 use crate::blocks::MenuView;
 use crate::columns::MenuColumns;
@@ -109,6 +112,29 @@ impl<'a> MixedSpace<'a> {
             undead: &place.undead,
         }
     }
+
+    /// The floor of a child, if it is live: then the child is written into the place that is given.
+    /// What is told of the child isn't asked again.
+    fn child_with(&self, node: &Node, k: usize, told: bool, child: &mut Node) -> Option<u64>
+        requires child { HasChild (IsNodeOf self.now.exercise self.now.sheet node.now)
+            (columns_in self.now.exercise) (width_at self.now.exercise) k }
+        requires told { IsTrue told → IsTold self.now.exercise node.now k }
+        ensures { IsMadeChild (IsNodeOf self.now.exercise self.now.sheet)
+            (live_with false self.now.exercise self.now.sheet) k node.now child.new result }
+    {
+        let column = self.column(node.state.len(), k);
+        child_by(
+            &self.exercise,
+            self.sheet,
+            self.idle(node.state.len()),
+            told,
+            node,
+            k,
+            column,
+            0,
+            child,
+        )
+    }
 }
 
 impl<'a> MenuColumns for MixedSpace<'a> {
@@ -124,10 +150,7 @@ impl<'a> MenuColumns for MixedSpace<'a> {
 }
 
 impl<'a> Space for MixedSpace<'a> {
-    ghost use Rattle.std.specs.Prelude.{false};
     ghost use Rattle.species_space.specs.Grows.{with_grow};
-    ghost use Rattle.species_space.specs.Nodes.{IsNodeOf};
-    ghost use Rattle.species_space.specs.Paths.{live_with, width_at};
 
     type Node = Node;
 
@@ -138,6 +161,8 @@ impl<'a> Space for MixedSpace<'a> {
     ghost height = { λ space. columns_in space.exercise };
 
     ghost is_at = { λ space. IsNodeOf space.exercise space.sheet };
+
+    ghost is_told = { λ space. IsTold space.exercise };
 
     ghost floors_grow = { λ space. with_grow false space.exercise space.sheet };
 
@@ -163,22 +188,16 @@ impl<'a> Space for MixedSpace<'a> {
 
     fn child(&self, node: &Node, k: usize) -> Option<(Node, u64)> {
         let mut child = *node;
-        let floor = self.child_into(node, k, &mut child)?;
+        let floor = self.child_with(node, k, false, &mut child)?;
         Some((child, floor))
     }
 
     fn child_into(&self, node: &Node, k: usize, child: &mut Node) -> Option<u64> {
-        let column = self.column(node.state.len(), k);
-        child_by(
-            &self.exercise,
-            self.sheet,
-            self.idle(node.state.len()),
-            node,
-            k,
-            column,
-            0,
-            child,
-        )
+        self.child_with(node, k, true, child)
+    }
+
+    fn remake(&self, node: &Node, k: usize, child: &mut Node) -> u64 {
+        self.child_with(node, k, false, child).unwrap_or(0)
     }
 
     fn is_last(&self, node: &Node, _k: usize) -> bool {

@@ -1,6 +1,6 @@
 //! The tree of the settings of an exercise.
 
-ghost use Rattle.std.specs.Prelude.{◌≡◌, ◌<◌, ◌≤◌, ◌+◌, ◌^◌, Bool, [], Some, None, OnOk, IfOk, IfErr, IfSome, IfNone, length, slice_index_or};
+ghost use Rattle.std.specs.Prelude.{◌≡◌, ◌<◌, ◌≤◌, ◌+◌, ◌^◌, Bool, [], Some, None, OnOk, IfOk, IfErr, IfSome, IfNone, IsTrue, length, slice_index_or};
 ghost use Rattle.fux_grid.specs.Exercises.{IsValid, columns_in};
 ghost use Rattle.fux_grid.specs.Grid.{items_of};
 ghost use Rattle.fux_grid.specs.Menus.{menu_of};
@@ -8,7 +8,7 @@ ghost use Rattle.species_space.specs.Blocks.{AreBlocksOf, SkipDead};
 ghost use Rattle.floor_tables.specs.Tables.{AreNarrow, IsRest, TellsWidth};
 ghost use Rattle.fux_judge.specs.Late.{HaveNoPlace};
 ghost use Rattle.species_space.specs.Grows.{paths_grow};
-ghost use Rattle.species_space.specs.Nodes.{IsNodeOf};
+ghost use Rattle.species_space.specs.Nodes.{IsNodeOf, IsTold};
 ghost use Rattle.species_space.specs.Chained.{IsRestWith};
 ghost use Rattle.species_space.specs.Paths.{live_at, live_with, width_at};
 ghost use Rattle.species_space.specs.Task.{AreMenus, IsViewOf, IsReady};
@@ -145,6 +145,31 @@ impl<'a> SpeciesSpace<'a> {
         let rest = self.tables.rest_of_number(i, k)?;
         Some((self.tables.column(i, k), rest))
     }
+
+    /// The floor of a child, if it is live: then the child is written into the place that is given.
+    /// What is told of the child isn't asked again.
+    #[inline]
+    fn child_with(&self, node: &Node, k: usize, told: bool, child: &mut Node) -> Option<u64>
+        requires child { HasChild (IsNodeOf self.now.exercise self.now.sheet node.now)
+            (columns_in self.now.exercise) (width_at self.now.exercise) k }
+        requires told { IsTrue told → IsTold self.now.exercise node.now k }
+        ensures { IsMadeChild (IsNodeOf self.now.exercise self.now.sheet)
+            (live_at self.now.exercise self.now.sheet) k node.now child.new result }
+    {
+        let (column, rest) = self.choice(node, k)?;
+        let idle = self.idle(node.state.len());
+        child_by(
+            self.exercise,
+            self.sheet,
+            idle,
+            told,
+            node,
+            k,
+            column,
+            rest,
+            child,
+        )
+    }
 }
 
 impl<'a> Space for SpeciesSpace<'a> {
@@ -157,6 +182,8 @@ impl<'a> Space for SpeciesSpace<'a> {
     ghost height = { λ space. columns_in space.exercise };
 
     ghost is_at = { λ space. IsNodeOf space.exercise space.sheet };
+
+    ghost is_told = { λ space. IsTold space.exercise };
 
     ghost floors_grow = { λ space. paths_grow space.exercise space.sheet };
 
@@ -183,23 +210,12 @@ impl<'a> Space for SpeciesSpace<'a> {
 
     fn child(&self, node: &Node, k: usize) -> Option<(Node, u64)> {
         let mut child = *node;
-        let floor = self.child_into(node, k, &mut child)?;
+        let floor = self.child_with(node, k, false, &mut child)?;
         Some((child, floor))
     }
 
     fn child_into(&self, node: &Node, k: usize, child: &mut Node) -> Option<u64> {
-        let (column, rest) = self.choice(node, k)?;
-        let idle = self.idle(node.state.len());
-        child_by(
-            self.exercise,
-            self.sheet,
-            idle,
-            node,
-            k,
-            column,
-            rest,
-            child,
-        )
+        self.child_with(node, k, true, child)
     }
 
     fn remake(&self, node: &Node, k: usize, child: &mut Node) -> u64 {
@@ -301,11 +317,13 @@ fn menus_of(
 
 /// The floor of the child of this number and column, where the column follows and settles no strict
 /// break: what is to come behind it costs `rest` at least. Late rules that are known to have no
-/// place there aren't asked. The child is written into the place that is given.
+/// place there aren't asked, nor what is told of the child. The child is written into the place that
+/// is given.
 pub(crate) fn child_by(
     exercise: &Exercise,
     sheet: &Sheet,
     idle: RuleSet,
+    told: bool,
     node: &Node,
     k: usize,
     column: &Column,
@@ -316,6 +334,7 @@ pub(crate) fn child_by(
     requires child { HasChild (IsNodeOf exercise.now sheet.now node.now) (columns_in exercise.now)
         (width_at exercise.now) k }
     requires idle { HaveNoPlace exercise.now node.now.state.newest.len idle.bits }
+    requires told { IsTrue told → IsTold exercise.now node.now k }
     requires column { column.now.items
         ≡ slice_index_or (menu_of exercise.now node.now.state.newest.len) k [] }
     requires small { rest ≤ 2 ^ 61 }
@@ -329,7 +348,7 @@ pub(crate) fn child_by(
         return None;
     }
     let next = &mut child.state;
-    let Some(price) = step_unbroken(exercise, sheet, idle, &node.state, column, next) else {
+    let Some(price) = step_unbroken(exercise, sheet, idle, told, &node.state, column, next) else {
         return None;
     };
     child.paid = node.paid + price.paid;

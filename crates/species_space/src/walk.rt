@@ -1,14 +1,14 @@
 //! A walk over the columns of a menu that passes over the dead ones, and over those that are no
 //! better than the best leaf.
 
-ghost use Rattle.std.specs.Prelude.{◌≡◌, ◌<◌, ◌≤◌, ◌+◌, ◌^◌, ℕ, Bool, IfSome, IsSomeAnd, length};
+ghost use Rattle.std.specs.Prelude.{◌≡◌, ◌<◌, ◌≤◌, ◌+◌, ◌^◌, ℕ, Bool, [], IfNone, IfSome, IsSomeAnd, length, slice_index_or};
 ghost use Rattle.std.specs.Bool.{OnFalse};
 ghost use Rattle.fux_grid.specs.Exercises.{IsValid, columns_in};
 ghost use Rattle.fux_grid.specs.Menus.{menu_of};
-ghost use Rattle.species_space.specs.Blocks.{AreWithin, IsCut, IsHeldNext, PassesDead, columns_seen};
-ghost use Rattle.species_space.specs.Nodes.{ComesBefore, HasNoBetter, IsNodeOf, PassesOver};
+ghost use Rattle.species_space.specs.Blocks.{AreAlike, AreWithin, IsCut, IsHeldNext, PassesDead, columns_seen};
+ghost use Rattle.species_space.specs.Nodes.{ComesBefore, HasNoBetter, IsNodeOf, IsSmoothIn, PassesOver};
 ghost use Rattle.species_space.specs.Task.{IsViewOf, Task};
-ghost use Rattle.tree_search.specs.Space.{IsInner};
+ghost use Rattle.tree_search.specs.Space.{IsInner, IsToldBefore};
 
 use crate::blocks::MenuView;
 use crate::node::Node;
@@ -127,10 +127,13 @@ fn passed_over<R: Rests>(
     requires node { IsInner (IsNodeOf exercise.now sheet.now node.now) (columns_in exercise.now) }
     requires menu { IsViewOf exercise.now node.now.state.newest.len menu.now }
     requires within { k < length (columns_seen menu.now) }
+    requires tried { IsSmoothIn tried exercise.now node.now menu.now k }
     ensures onward { IfSome result (λ end. k < end.0) }
     ensures within { IfSome result (λ end. end.0 ≤ length (columns_seen menu.now)) }
     ensures passed { IfSome result (λ end. PassesOver R.chained exercise.now sheet.now node.now best
         k end.0) }
+    ensures sound { IfSome result (λ end. IsSmoothIn end.1 exercise.now node.now menu.now k) }
+    ensures smooth { IfNone result (IsSmoothIn 4 exercise.now node.now menu.now k) }
 {
     if !rests.may_be_better(node, k, best) {
         return Some((k + 1, tried));
@@ -162,6 +165,8 @@ fn next_held<R: Rests>(
     ensures onward { from ≤ result }
     ensures within { result ≤ length (columns_seen menu.now) }
     ensures passed { PassesOver R.chained exercise.now sheet.now node.now best from result }
+    ensures told { result < length (columns_seen menu.now)
+        → IsSmoothIn 4 exercise.now node.now menu.now result }
 {
     let hint = node.hint;
     if from > hint {
@@ -173,9 +178,24 @@ fn next_held<R: Rests>(
     hint
 }
 
+/// In how many of the lowest voices a column is known to have the cells of the one from behind which
+/// a walk goes on.
+#[inline]
+fn alike_before(menu: &MenuView<'_>, from: usize, k: usize) -> usize
+    ensures none { from ≡ 0 → result ≡ 0 }
+    ensures alike { (j : ℕ) → from ≡ j + 1 → AreAlike result (slice_index_or (columns_seen menu.now) j [])
+        (slice_index_or (columns_seen menu.now) k []) }
+{
+    if from == 0 {
+        return 0;
+    }
+    menu.lowest_alike(from - 1, k)
+}
+
 /// The first number, from this one on, of a column that may follow, has a rest, and isn't pruned by
 /// the cells of its lowest voices: they settle no strict break and don't cost too much to be better
-/// than the best. The menu's length where there is none.
+/// than the best. The menu's length where there is none. Where nothing is relaxed, and the column
+/// before the first number breaks no rule of melody, neither does this one.
 pub(crate) fn next_unpruned<R: Rests>(
     exercise: &Exercise,
     sheet: &Sheet,
@@ -190,19 +210,19 @@ pub(crate) fn next_unpruned<R: Rests>(
     requires node { IsInner (IsNodeOf exercise.now sheet.now node.now) (columns_in exercise.now) }
     requires menu { IsViewOf exercise.now node.now.state.newest.len menu.now }
     requires within { from ≤ length (columns_seen menu.now) }
+    requires before { IsToldBefore (IsSmoothIn 4 exercise.now node.now menu.now) from }
     ensures onward { from ≤ result }
     ensures within { result ≤ length (columns_seen menu.now) }
     ensures passed { PassesOver R.chained exercise.now sheet.now node.now best from result }
+    ensures told { result < length (columns_seen menu.now)
+        → IsSmoothIn 4 exercise.now node.now menu.now result }
 {
     let before = node.state.before(exercise);
     if menu.goes_on(node.state.len(), before, node.hint) {
         return next_held(exercise, sheet, rests, node, menu, before, from, best);
     }
     let mut k = next_choice(menu, before, from, node.hint);
-    let mut tried = 0;
-    if from > 0 {
-        tried = menu.lowest_alike(from - 1, k);
-    }
+    let mut tried = alike_before(menu, from, k);
     while k < menu.len() {
         let passed = passed_over(exercise, sheet, rests, node, menu, k, tried, best);
         let Some((end, sound)) = passed else {

@@ -1,5 +1,5 @@
 -- What a search may take for granted of a tree.
-use Rattle.std.specs.Prelude.{◌≡◌, ℕ, ◌<◌, ◌≤◌, ◌++◌, ◌∷◌, [], List, Option, Some, None, IsSome, IsSomeAnd, MatchOption, length}
+use Rattle.std.specs.Prelude.{◌≡◌, ℕ, ◌+◌, ◌<◌, ◌≤◌, ◌++◌, ◌∷◌, [], List, Option, Some, None, IsSome, IsSomeAnd, MatchOption, length}
 
 -- the node is at a path to no leaf
 pub record IsInner (is_at : List ℕ → Type 0) (height : ℕ) : Type 0 where
@@ -65,6 +65,10 @@ pub record IsParent (live : List ℕ → Option ℕ) (width : List ℕ → ℕ) 
   pub no_higher : own_floor ≤ floor
   pub within : child < width path
   pub above : length path < height
+
+-- it is told of the child before the one of this number, where there is one
+abbrev pub IsToldBefore : (ℕ → Type 0) → ℕ → Type 0
+IsToldBefore is_told child = (before : ℕ) → child ≡ before + 1 → is_told before
 
 -- wherever the child of this number is live, those behind it are dead, as far as the next one
 abbrev pub AreDeadBetween : (List ℕ → Type 0) → (List ℕ → Option ℕ) → ℕ → ℕ → Type 0

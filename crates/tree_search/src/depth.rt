@@ -75,6 +75,7 @@ fn enter<S: Space>(space: &S, node: &S::Node, level: usize, k: usize, walk: &mut
     requires above { level < S.height space.now }
     requires within { k < S.width space.now (path_to walk.old level) }
     requires small { k < 2 ^ 16 }
+    requires told { S.is_told space.now node.now k }
     requires lengths { HasLengths (S.height space.now) walk.old }
     requires best { HasBestBefore (S.live space.now) (S.height space.now) (path_to walk.old level
         ++ k ∷ []) walk.old }

@@ -6,7 +6,7 @@ ghost use Rattle.tree_search.specs.Answer.{AreLowerLoadsWithin, AtMost, IsLiveBe
 ghost use Rattle.tree_search.specs.Links.{path_in};
 ghost use Rattle.tree_search.specs.Entries.{entry_of};
 ghost use Rattle.tree_search.specs.Queues.{IsQueue, entries};
-ghost use Rattle.tree_search.specs.Trails.{LeadsTo, Leads};
+ghost use Rattle.tree_search.specs.Trails.{LeadsTo, Leads, node_in};
 ghost use Rattle.tree_search.specs.Nth.{AreFewerBelow, HasOnly, IsNthLeaf, IsOverNth};
 ghost use Rattle.tree_search.specs.Numbered.{IfFound, IfOnly, IfSpent, IsSpent};
 ghost use Rattle.tree_search.specs.Finds.{IsFinds, kept};
@@ -106,6 +106,7 @@ fn next_after<S: Space>(space: &S, node: &S::Node, k: usize, count: usize) -> us
     requires within { k < count }
     ensures onward { k < result }
     ensures within { result ≤ count }
+    ensures behind { result < count → result ≡ k + 1 }
     ensures passed { AreDeadBetween (S.is_at space.now node.now) (S.live space.now) k result }
 {
     if space.is_last(node, k) {
@@ -134,6 +135,7 @@ fn take_child<S: Space>(
         trail.old }
     requires above { opened.level < S.height space.now }
     requires within { k < opened.count }
+    requires told { (d : S.Node) → S.is_told space.now (node_in trail.old.nodes opened.level d) k }
     requires count { opened.count
         ≡ S.width space.now (path_in front.old.links.items opened.entry) }
     requires few { opened.count ≤ 2 ^ 16 }
@@ -143,6 +145,9 @@ fn take_child<S: Space>(
         opened.entry next) }
     ensures onward { IfSome result (λ next. k < next) }
     ensures within { IfSome result (λ next. next ≤ opened.count) }
+    ensures behind { IfSome result (λ next. next < opened.count → next ≡ k + 1) }
+    ensures node { (d : S.Node) → node_in trail.new.nodes opened.level d
+        ≡ node_in trail.old.nodes opened.level d }
     ensures path { path_in front.new.links.items opened.entry
         ≡ path_in front.old.links.items opened.entry }
     ensures parent { LeadsTo (S.is_at space.now) (S.height space.now) front.new.links.items

@@ -110,6 +110,7 @@ fn child_behind<S: Space>(
     requires above { level < S.height space.now }
     requires child { (d : S.Node) → HasChild (S.is_at space.now (node_in nodes.old level d))
         (S.height space.now) (S.width space.now) k }
+    requires told { (d : S.Node) → S.is_told space.now (node_in nodes.old level d) k }
     ensures made { (d : S.Node) → IsMadeChild (S.is_at space.now) (S.live space.now) k
         (node_in nodes.old level d) (node_in nodes.new (level + 1) d) result }
     ensures kept { AreKept nodes.old nodes.new level }
@@ -138,8 +139,8 @@ fn remake_behind<S: Space>(space: &S, nodes: &mut Nodes<S::Node>, level: usize, 
     }
 }
 
-/// The floor of a child of the node at a level, if it is live: then it is made at the next level
-/// where the trail goes no further, and else in the spare place.
+/// The floor of a child of the node at a level whose number was answered, if it is live: then it is
+/// made at the next level where the trail goes no further, and else in the spare place.
 pub fn make_child<S: Space>(
     space: &S,
     trail: &mut Trail<S::Node>,
@@ -150,6 +151,7 @@ pub fn make_child<S: Space>(
         trail.old.path.items trail.old.nodes level }
     requires above { level < S.height space.now }
     requires within { k < S.width space.now (take level trail.old.path.items) }
+    requires told { (d : S.Node) → S.is_told space.now (node_in trail.old.nodes level d) k }
     ensures made { IsMadeAt (S.is_at space.now) (S.live space.now)
         (take level trail.old.path.items ++ k ∷ []) (made_in trail.new level) result }
     ensures kept { IsKept trail.old trail.new level }

@@ -1,4 +1,4 @@
-use Rattle.std.proofs.Common.{◌++◌, ◌∷◌, [], ◌+◌, ◌||◌, ◌==◌, ◌&&◌, ap, sym, ◌∙◌}
+use Rattle.std.proofs.Common.{◌++◌, ◌∷◌, [], ◌+◌, ◌||◌, ◌==◌, ◌&&◌, ap, sym, true≢false, ◌∙◌}
 use Rattle.std.specs.List.{list_any}
 use Rattle.fux_judge.specs.Penalties.{paid}
 use Rattle.fux_judge.proofs.Grows.{paid_grows}
@@ -6,6 +6,9 @@ use Rattle.fux_judge.specs.Rules.{late_rules}
 use Rattle.fux_judge.specs.Steps.{breaks_late}
 use Rattle.fux_judge.proofs.StepLemmas.{step_breaks, step_pays}
 use Rattle.fux_judge.proofs.verdict.step.Goals as goal
+
+pub readings-paid-requires-clause-told : goal.readings-paid-requires-clause-told
+readings-paid-requires-clause-told c = λ h. absurd (true≢false (sym h))
 
 pub returns-clause-broken : goal.returns-clause-broken
 returns-clause-broken c = λ p st on r.

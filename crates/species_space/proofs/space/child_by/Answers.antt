@@ -6,6 +6,7 @@ use Rattle.fux_grid.specs.Columns.{ColumnFollows}
 use Rattle.fux_grid.specs.Exercises.{columns_in}
 use Rattle.fux_grid.specs.Menus.{menu_of}
 use Rattle.fux_grid.proofs.MenuLemmas.{menu_of-full}
+use Rattle.fux_judge.specs.Pruning.{IsSmoothWithin}
 use Rattle.fux_judge.specs.Rules.{rules_read}
 use Rattle.fux_judge.specs.Penalties.{newly_broken}
 use Rattle.species_space.specs.Paths.{prefix_at, column_at, width_at}
@@ -45,6 +46,11 @@ step_unbroken-requires-clause-full c =
     let same = chosen ex child.path c.args.k c.args.node.now.state.newest.len c.args.column.now.items
     (as_long ex c.args.sheet.now c.args.node.now child.path child.at) c.requires.column in
     ap length same ∙ menu_of-full ex (length child.path) c.args.k [] child.within
+
+pub step_unbroken-requires-clause-told : goal.step_unbroken-requires-clause-told
+step_unbroken-requires-clause-told c = λ yes.
+    subst (λ (col : List Cell). IsSmoothWithin 4 c.args.exercise.now c.args.node.now.state col)
+    (sym c.requires.column) (c.requires.told yes)
 
 pub returns-in_default : goal.returns-in_default
 returns-in_default c = λ chained is path at.

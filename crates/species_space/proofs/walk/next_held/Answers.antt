@@ -1,4 +1,4 @@
-use Rattle.std.proofs.Common.{◌<◌, ℕ, inl, inr, List, length, sym, subst, arith}
+use Rattle.std.proofs.Common.{◌<◌, ℕ, inl, inr, List, [], length, sym, subst, arith}
 use Rattle.std.proofs.lemmas.Bool.{OnFalse_at, cases_eq}
 use Rattle.fux_grid.specs.Exercises.{IsValid}
 use Rattle.fux_grid.specs.Menus.{menu_of}
@@ -6,6 +6,7 @@ use Rattle.floor_tables.specs.Tables.{Task}
 use Rattle.species_space.specs.Blocks.{columns_seen}
 use Rattle.species_space.specs.Nodes.{IsNodeOf}
 use Rattle.species_space.specs.Paths.{IsNoBetter}
+use Rattle.species_space.proofs.Smooth.{held_smooth}
 use Rattle.species_space.proofs.WalkSteps.{other_no_better}
 use Rattle.species_space.proofs.walk.next_held.Goals as goal
 
@@ -58,3 +59,16 @@ returns-clause-passed g c = λ path at j le lt.
 
 pub returns-clause-within : goal.returns-clause-within
 returns-clause-within g c = omega (arith, c.requires.held.0)
+
+pub returns-then-from-hint-clause-told : goal.returns-then-from-hint-clause-told
+returns-then-from-hint-clause-told g c = λ lt. absurd (omega (arith, lt, c.len.ensures))
+
+pub returns-then-not-may_be_better-clause-told : goal.returns-then-not-may_be_better-clause-told
+returns-then-not-may_be_better-clause-told g c = λ lt.
+    absurd (omega (arith, lt, c.len-then-not-may_be_better.ensures))
+
+pub returns-clause-told : goal.returns-clause-told
+returns-clause-told g c = λ lt.
+    let held = c.requires.held in
+    held_smooth 4 c.args.exercise.now c.args.node.now.state _
+    (c.requires.menu.cut.holds held.1 c.args.node.now.hint [] lt)

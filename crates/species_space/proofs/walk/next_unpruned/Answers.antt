@@ -1,7 +1,9 @@
-use Rattle.std.proofs.Common.{ℕ, [], slice_index_or, arith}
+use Rattle.std.proofs.Common.{ℕ, ◌<◌, [], length, slice_index_or, ap, ◌∙◌, subst, arith}
+use Rattle.fux_grid.proofs.MenuLemmas.{menu_of-full}
 use Rattle.species_space.specs.Blocks.{columns_seen}
 use Rattle.species_space.specs.Paths.{IsNoBetter}
 use Rattle.species_space.proofs.Passing.{passed_on}
+use Rattle.species_space.proofs.Smooth.{alike_smooth, first_smooth}
 use Rattle.species_space.proofs.WalkSteps.{column_of_menu, stray_no_better}
 use Rattle.species_space.proofs.walk.next_unpruned.Goals as goal
 
@@ -21,6 +23,13 @@ loop-k-init g c =
     record {
       onward = next.onward;
       within = next.within;
+      told = first_smooth ex node.state menu c.args.from c.alike_before-tried.result c.next_choice-k.result
+          c.requires.valid.most_voices
+          (λ j e.
+          ap (λ cols. length (slice_index_or cols j [])) c.requires.menu.columns
+          ∙ menu_of-full ex node.state.newest.len j []
+          (subst (λ cols. j < length cols) c.requires.menu.columns (omega (arith, e, c.requires.within))))
+          c.alike_before-tried.ensures.none c.alike_before-tried.ensures.alike c.requires.before;
       passed = λ path at j le lt.
           stray_no_better ex sheet node path at j g.R.Rests.chained c.args.best c.before-before.result.now
           (slice_index_or menu j [])
@@ -61,6 +70,15 @@ loop-k-preserved g c =
     record {
       onward = omega (arith, c.loop-k.invariant.onward, c.in-Some.ensures.onward, c.in-Some.end-is, next.onward);
       within = next.within;
+      told = alike_smooth ex node.state (slice_index_or menu k []) (slice_index_or menu to []) _ _ _
+          (ap (λ cols. length (slice_index_or cols k [])) c.requires.menu.columns
+          ∙ menu_of-full ex node.state.newest.len k []
+          (subst (λ cols. k < length cols) c.requires.menu.columns (omega (arith, c.loop-k-test.true, c.len.ensures))))
+          c.lowest_alike.ensures c.in-Some.ensures.sound
+          (λ v lt there. (
+            omega (arith, lt, c.min-tried.ensures, c.in-Some.sound-is),
+            omega (arith, lt, c.min-tried.ensures, c.in-Some.sound-is),
+          ));
       passed = λ path at.
           let P : ℕ → Type 0 = λ j. IsNoBetter g.R.Rests.chained ex sheet path c.args.best j in
           passed_on P c.args.from k to (c.loop-k.invariant.passed path at)
@@ -81,3 +99,9 @@ returns-clause-within g c = c.loop-k.invariant.within
 
 pub returns-clause-passed : goal.returns-clause-passed
 returns-clause-passed g c = c.loop-k.invariant.passed
+
+pub returns-in_default-clause-told : goal.returns-in_default-clause-told
+returns-in_default-clause-told g c = λ lt. c.in_default.ensures.smooth
+
+pub returns-clause-told : goal.returns-clause-told
+returns-clause-told g c = λ lt. absurd (omega (arith, lt, c.loop-k-test.false, c.len.ensures))

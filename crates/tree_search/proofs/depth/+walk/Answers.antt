@@ -1,4 +1,4 @@
-use Rattle.std.proofs.Common.{◌≡◌, ◌+◌, ◌-◌, ◌<◌, ◌≤◌, ◌^◌, ◌++◌, ◌∷◌, [], take, set, length, length-append, refl, sym, ap, ◌∙◌, arith, rules}
+use Rattle.std.proofs.Common.{ℕ, ◌≡◌, ◌+◌, ◌-◌, ◌<◌, ◌≤◌, ◌^◌, ◌++◌, ◌∷◌, [], take, set, length, length-append, refl, sym, ap, subst, ◌∙◌, arith, rules}
 use Rattle.std.proofs.lemmas.Bool.{OnTrue_at, OnTrue_from, OnFalse_at, OnFalse_from}
 use Rattle.std.proofs.lemmas.List.{take_more_set, take_at, take-take, take_all, length-take-le, length-set}
 use Rattle.tree_search.specs.Answer.{Many}
@@ -24,6 +24,7 @@ descend-loop-from-init g t c =
       lengths = c.requires.lengths;
       best = best_first (g.met.S.Space.floors_grow c.args.space.now) path walk.best walk.best_path.items short
           c.requires.best;
+      told = λ j e. absurd (omega (arith, e));
       opened = (omega arith, Exactly-none _ _ (omega arith) (λ x it. absurd (omega (arith, it.1.1))));
     }
 
@@ -61,6 +62,8 @@ descend-enter-requires g t c =
     let within : c.next_child-k.result < g.S.Space.width c.args.space.now
     (take c.args.level c.loop-from.walk.path.items) = omega (arith, width) in
     let small : c.next_child-k.result < 2 ^ 16 = omega arith in
+    let told = c.next_child-k.ensures.told _ c.requires.node
+    (omega (arith, c.count-count.ensures.value _ c.requires.node, c.if-k-count.false)) in
     search rules
 
 pub descend-returns-then-not-enter-clause-spent : goal.descend-returns-then-not-enter-clause-spent
@@ -91,6 +94,11 @@ descend-loop-from-preserved g t c =
       same_path = c.if-not-enter.ensures.path ∙ kept.same_path;
       lengths = c.if-not-enter.ensures.lengths;
       best = rw kept.same_path at c.if-not-enter.ensures.best;
+      told = λ j e.
+          let same : c.next_child-k.result ≡ j = omega (arith, e) in
+          subst (λ (n : ℕ). g.S.Space.is_told c.args.space.now c.args.node.now n) same
+          (c.next_child-k.ensures.told _ c.requires.node
+          (omega (arith, c.count-count.ensures.value _ c.requires.node, c.if-k-count.false)));
       opened = (
         omega (arith, kept.opened.0, c.if-not-enter.ensures.opened.0),
         exactly_more (g.S.Space.live c.args.space.now) (g.S.Space.height c.args.space.now) path c.next_child-k.result _

@@ -1,4 +1,5 @@
 use Rattle.std.proofs.Common.{◌≡◌, ◌+◌, ◌-◌, ◌*◌, ◌≤◌, ◌++◌, ◌∷◌, [], take}
+use Rattle.tree_search.specs.Space.{IsToldBefore}
 use Rattle.tree_search.specs.Walks.{IsOpenedBelow, IsBestBefore, HasOpened, HaveLength}
 use Rattle.tree_search.proofs.depth.+walk.Given as goal
 
@@ -18,6 +19,7 @@ invariant-descend-loop-from g l =
       lengths : HaveLength (space.height l.space) l.walk.path.items l.walk.best_path.items;
       best : IsBestBefore (space.live l.space) (space.height l.space) (path ++ l.from ∷ []) l.walk.best
           l.walk.best_path.items;
+      told : IsToldBefore (space.is_told l.space l.node) l.from;
       opened : HasOpened (IsOpenedBelow (space.live l.space) (space.height l.space) path l.from) l.initial.walk.left
           l.walk.left;
     }

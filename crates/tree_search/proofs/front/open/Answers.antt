@@ -1,4 +1,4 @@
-use Rattle.std.proofs.Common.{ℕ, List, subst, ap, arith}
+use Rattle.std.proofs.Common.{◌≡◌, ℕ, List, subst, sym, ap, ◌∙◌, arith}
 use Rattle.tree_search.specs.Fronts.{IsClosed, floor_of}
 use Rattle.tree_search.specs.Links.{path_in}
 use Rattle.tree_search.proofs.Trails.{node_of, level_is}
@@ -12,8 +12,8 @@ count-count-requires g c = record {
   above = omega (arith, level_is c.requires.trail, c.requires.above);
 }
 
-pub next_child-k-requires : goal.next_child-k-requires
-next_child-k-requires g c =
+pub next_child-k-requires-clause-child : goal.next_child-k-requires-clause-child
+next_child-k-requires-clause-child g c =
     let kept = c.loop-from.invariant in
     let space = c.args.space.now in
     let width = ap (g.S.Space.width space) kept.same_path in
@@ -25,6 +25,54 @@ next_child-k-requires g c =
       at = node_of kept.parent node (c.node_at-in-loop-from.ensures node);
       above = omega (arith, level_is kept.parent, c.requires.above);
       within = omega (arith, width, count, c.loop-from-test.true);
+    }
+
+pub next_child-k-requires-clause-before : goal.next_child-k-requires-clause-before
+next_child-k-requires-clause-before g c = λ j e.
+    let node = c.node_at-in-loop-from.result.now in
+    subst (λ (x : g.row.S-Node.Denot). g.S.Space.is_told c.args.space.now x j)
+    (sym (c.node_at-in-loop-from.ensures node))
+    (c.loop-from.invariant.told c.loop-from-test.true node j e)
+
+pub take_child-next-requires-clause-told : goal.take_child-next-requires-clause-told
+take_child-next-requires-clause-told g c = λ d.
+    let kept = c.loop-from.invariant in
+    let space = c.args.space.now in
+    let width = ap (g.S.Space.width space) kept.same_path in
+    let count = c.count-count.ensures.value _
+    (node_of c.requires.trail c.node_at.result.now (c.node_at.ensures c.node_at.result.now)) in
+    let node = c.node_at-in-loop-from.result.now in
+    subst (λ (x : g.row.S-Node.Denot). g.S.Space.is_told space x c.next_child-k.result)
+    (c.node_at-in-loop-from.ensures d)
+    (c.next_child-k.ensures.told _ (node_of kept.parent node (c.node_at-in-loop-from.ensures node))
+    (omega (arith, width, count, c.if-k-count.false)))
+
+pub loop-from-preserved : goal.loop-from-preserved
+loop-from-preserved g c =
+    let kept = c.loop-from.invariant in
+    let more = c.in-Some.ensures in
+    let space = c.args.space.now in
+    record {
+      within = more.within;
+      opening = more.open;
+      parent = more.parent;
+      trail = more.trail;
+      same_path = more.path ∙ kept.same_path;
+      room = more.room;
+      queue = more.queue;
+      taken = omega (arith, more.taken, kept.taken);
+      told = λ lt d j e.
+          let width = ap (g.S.Space.width space) kept.same_path in
+          let count = c.count-count.ensures.value _
+          (node_of c.requires.trail c.node_at.result.now (c.node_at.ensures c.node_at.result.now)) in
+          let node = c.node_at-in-loop-from.result.now in
+          let same : c.next_child-k.result ≡ j = omega (arith, more.behind lt, e) in
+          subst (λ (x : g.row.S-Node.Denot). g.S.Space.is_told space x j)
+          (c.node_at-in-loop-from.ensures d ∙ sym (more.node d))
+          (subst (λ (n : ℕ). g.S.Space.is_told space node n) same
+          (c.next_child-k.ensures.told _ (node_of kept.parent node (c.node_at-in-loop-from.ensures node))
+          (omega (arith, width, count, c.if-k-count.false))));
+      same_finds = more.finds ∙ kept.same_finds;
     }
 
 pub take_child-next-requires-clause-open : goal.take_child-next-requires-clause-open

@@ -1,6 +1,7 @@
-use Rattle.std.proofs.Common.{◌≡◌, ◌-◌, ◌≤◌}
+use Rattle.std.proofs.Common.{◌≡◌, ◌-◌, ◌<◌, ◌≤◌}
 use Rattle.tree_search.specs.Links.{path_in}
-use Rattle.tree_search.specs.Trails.{IsTrailTo}
+use Rattle.tree_search.specs.Trails.{IsTrailTo, node_in}
+use Rattle.tree_search.specs.Space.{IsToldBefore}
 use Rattle.tree_search.specs.Fronts.{IsOpen, HasRoom, SameTaken}
 use Rattle.tree_search.specs.Queues.{IsQueue}
 use Rattle.tree_search.proofs.front.open.Given as goal
@@ -19,6 +20,8 @@ invariant-loop-from g l =
       room : HasRoom l.budget l.front;
       queue : IsQueue l.front.waiting;
       taken : SameTaken l.initial.front l.front;
+      told : l.from < l.count
+          → (d : g.row.S-Node.Denot) → IsToldBefore (space.is_told l.space (node_in l.trail.nodes l.level d)) l.from;
       same_finds : l.front.finds ≡ l.initial.front.finds;
     }
 

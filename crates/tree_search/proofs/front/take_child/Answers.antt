@@ -133,3 +133,18 @@ returns-clause-trail g c =
     trail_child (parent_kept c.in-Some.ensures.kept c.requires.parent) c.requires.above c.args.k _ made.0 _
     c.place.ensures.nodes _ _ _ _ c.add.ensures.links c.place.ensures.path c.place.ensures.entries
     (omega (arith, c.len-2.ensures, c.add.new.front.links.ok.0)) _ _ c.place.ensures.level c.place.ensures.entry
+
+pub returns-in_default-clause-node : goal.returns-in_default-clause-node
+returns-in_default-clause-node g c = λ d.
+    c.in_default.ensures.kept.nodes.same c.args.opened.level d (omega arith)
+
+pub returns-then-len-budget-clause-node : goal.returns-then-len-budget-clause-node
+returns-then-len-budget-clause-node g c = λ d. c.in-Some.ensures.kept.nodes.same c.args.opened.level d (omega arith)
+
+pub returns-then-floor-least-clause-node : goal.returns-then-floor-least-clause-node
+returns-then-floor-least-clause-node g c = λ d. c.in-Some.ensures.kept.nodes.same c.args.opened.level d (omega arith)
+
+pub returns-clause-node : goal.returns-clause-node
+returns-clause-node g c = λ d.
+    c.place.ensures.nodes.kept.same c.args.opened.level d (omega arith)
+    ∙ c.in-Some.ensures.kept.nodes.same c.args.opened.level d (omega arith)

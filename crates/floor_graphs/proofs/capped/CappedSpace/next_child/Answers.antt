@@ -3,6 +3,16 @@ use Rattle.floor_graphs.specs.Capped.{capped_parts}
 use Rattle.floor_graphs.proofs.Better.{no_better_above}
 use Rattle.floor_graphs.proofs.capped.CappedSpace.next_child.Goals as goal
 
+pub count-requires : goal.count-requires
+count-requires g c = record { path = c.requires.child.path; at = c.requires.child.at; above = c.requires.child.above }
+
+pub returns-then-is_met-clause-onward : goal.returns-then-is_met-clause-onward
+returns-then-is_met-clause-onward g c =
+    omega (arith, c.count.ensures.value _ c.requires.child.at, c.requires.child.within)
+
+pub returns-then-is_met-clause-told : goal.returns-then-is_met-clause-told
+returns-then-is_met-clause-told g c = λ path at lt. absurd (omega (arith, c.count.ensures.value path at, lt))
+
 pub returns-clause-passed : goal.returns-clause-passed
 returns-clause-passed g c = λ path at child floor from to live.
     let parts = capped_parts _ _ _ floor live in
