@@ -1,8 +1,9 @@
 //! The tables, and which function answers the cases of each.
 
-use crate::tables::compare;
-use crate::{devices, menus, mixed, notes, pitches};
+use crate::tables::agree;
+use crate::{menus, mixed, notes, pitches};
 use std::alloc::Global;
+use std::process::Abort;
 use std::test::Fail;
 
 /// What a table asks.
@@ -19,6 +20,7 @@ enum Asked {
     Gamut,
     Note,
     Shape,
+    Push,
     Order,
     Menu,
     Width,
@@ -27,11 +29,9 @@ enum Asked {
     GivenMenu,
     GivenBar,
     Mixed,
-    File,
-    Front,
 }
 
-const TABLES: [(Asked, &str); 21] = [
+const TABLES: [(Asked, &str); 20] = [
     (Asked::Key, pitches::KEYS),
     (Asked::Spelling, pitches::SPELLINGS),
     (Asked::Name, pitches::NAMES),
@@ -43,6 +43,7 @@ const TABLES: [(Asked, &str); 21] = [
     (Asked::Gamut, pitches::GAMUTS),
     (Asked::Note, notes::NOTES),
     (Asked::Shape, notes::SHAPES),
+    (Asked::Push, notes::PUSHES),
     (Asked::Order, notes::ASCENDING),
     (Asked::Menu, menus::MENUS),
     (Asked::Width, menus::WIDTHS),
@@ -51,8 +52,6 @@ const TABLES: [(Asked, &str); 21] = [
     (Asked::GivenMenu, menus::GIVEN_MENUS),
     (Asked::GivenBar, menus::GIVEN_BARS),
     (Asked::Mixed, mixed::MIXED),
-    (Asked::File, devices::FILES),
-    (Asked::Front, devices::FRONTS),
 ];
 
 /// What is answered of a case.
@@ -69,6 +68,7 @@ fn answer(alloc: Global, asked: Asked, case: &str) -> Result<String, Fail> {
         Asked::Gamut => pitches::gamut_of(alloc, case),
         Asked::Note => notes::notes_at(alloc, case),
         Asked::Shape => notes::shape_of(alloc, case),
+        Asked::Push => notes::pushed(alloc, case),
         Asked::Order => notes::orders(alloc, case),
         Asked::Menu => menus::menu_at(alloc, case),
         Asked::Width => menus::width_of(alloc, case),
@@ -77,20 +77,24 @@ fn answer(alloc: Global, asked: Asked, case: &str) -> Result<String, Fail> {
         Asked::GivenMenu => menus::given_menu(alloc, case),
         Asked::GivenBar => menus::given_line(alloc, case),
         Asked::Mixed => mixed::mixed_of(alloc, case),
-        Asked::File => devices::file_of(alloc, case),
-        Asked::Front => devices::front_of(alloc, case),
     }
+}
+
+/// Goes through a table, each line of which has a case and its answer, with ` = ` between them, and
+/// ends the test at the first case that is answered otherwise.
+fn compare(rt: &impl Abort, alloc: Global, asked: Asked, table: &str) -> Result<(), Fail> {
+    for line in table.lines() {
+        let (case, wanted) = line.split_once(" = ").ok_or("no answer")?;
+        let found = answer(alloc, asked, case)?;
+        agree(rt, line, found.as_str(), wanted);
+    }
+    Ok(())
 }
 
 #[test]
 fn worked_values_stand(rt: HostRuntime) -> Result<(), Fail> {
     for (asked, table) in TABLES {
-        compare(
-            &rt,
-            rt.alloc(),
-            table,
-            |alloc, case| answer(alloc, asked, case),
-        )?;
+        compare(&rt, rt.alloc(), asked, table)?;
     }
     Ok(())
 }

@@ -1,4 +1,4 @@
-//! Worked values of the crates at the ground: pitches, columns and exercises, shelves and sinks.
+//! Worked values of the crates at the ground: pitches, columns and exercises, the disk.
 //! They stand above the crates that they try, so that what carries the proofs is proved once, and
 //! below all others, so that they are proved beside these.
 #![tactic(auto)]
@@ -6,7 +6,7 @@
 #[cfg(test)]
 mod answers;
 #[cfg(test)]
-mod devices;
+mod disk;
 #[cfg(test)]
 mod menus;
 #[cfg(test)]

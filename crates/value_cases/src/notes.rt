@@ -2,7 +2,7 @@
 
 ghost use Rattle.std.specs.Prelude.{◌≡◌, IfOk, length};
 
-use crate::tables::{compare, number, word};
+use crate::tables::{number, word};
 use fux_grid::{
     Cell, Column, GridFault, Note, Score, next_note, note_at, order, prev_note, shape, sounding,
 };
@@ -119,12 +119,13 @@ fn column(case: &str) -> Result<Column, Fail>
     Ok(column)
 }
 
-/// Columns that are added to a score of two voices, one after another, and what is said of each.
-const PUSHES: &str = "\
+/// Columns that are added to a score of two voices, one after another, and what is said of the last
+/// one.
+pub const PUSHES: &str = "\
 r -C4 = hold at start in voice 1
 default +C4 = taken
--C4 -D4 = hold after rest in voice 0
-+D4 -D4 = hold moved in voice 1
+default +C4, -C4 -D4 = hold after rest in voice 0
+default +C4, +D4 -D4 = hold moved in voice 1
 none = not as many cells";
 
 fn told(alloc: Global, fault: GridFault) -> Result<String, Fail> {
@@ -138,38 +139,20 @@ fn told(alloc: Global, fault: GridFault) -> Result<String, Fail> {
     Ok(format!(in alloc; "hold {words} in voice {voice}")?)
 }
 
-fn push_of(alloc: Global, case: &str, score: &mut Score) -> Result<String, Fail> {
-    let next = if case == "none" {
-        Column::new()
-    } else {
-        column(case)?
-    };
-    match score.push(next) {
+pub fn pushed(alloc: Global, case: &str) -> Result<String, Fail> {
+    let mut score = Score::new(alloc, 2)?;
+    let mut answer = Ok(());
+    for text in case.split(", ") {
+        answer = score.push(if text == "none" {
+            Column::new()
+        } else {
+            column(text)?
+        });
+    }
+    match answer {
         Ok(()) => Ok(String::from_str(alloc, "taken")?),
         Err(fault) => told(alloc, fault),
     }
-}
-
-#[test]
-fn names_the_lowest_voice_at_fault(rt: HostRuntime) -> Result<(), Fail> {
-    let mut score = Score::new(rt.alloc(), 2)?;
-    compare(
-        &rt,
-        rt.alloc(),
-        PUSHES,
-        |alloc, case| push_of(alloc, case, &mut score),
-    )?;
-    for _ in 1..192 {
-        score.push(column("r -C4")?)?;
-    }
-    compare(
-        &rt,
-        rt.alloc(),
-        "none = full",
-        |alloc, case| push_of(alloc, case, &mut score),
-    )?;
-    assert!(rt; score.len() == 192);
-    Ok(())
 }
 
 /// Columns in reading order: by the lowest voice, its kind of cell, its key, its degree, and then
