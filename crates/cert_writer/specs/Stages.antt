@@ -69,8 +69,11 @@ abbrev pub lines_with : Option ArrayString → List ℕ → List ℕ
 lines_with None later = []
 lines_with (Some line) later = line.bytes ++ later
 
--- a writer at the beginning: all that a form has behind the text of a head is still to come
+-- all lines that a form has behind the text of a head
+abbrev pub all_lines : Matter → Form → List ℕ
+all_lines t form = stated_text (stated_in form t.exercise t.sheet) ++ claim_lines (claims_of t.exercise t.sheet t.head)
+
+-- a writer at the beginning: all of them are still to come
 pub record Begins (t : Matter) (form : Form) (begun : Lines) : Type 0 where
   pub lines : AreLines t begun
-  pub text : lines_left t begun
-      ≡ stated_text (stated_in form t.exercise t.sheet) ++ claim_lines (claims_of t.exercise t.sheet t.head)
+  pub text : lines_left t begun ≡ all_lines t form

@@ -1,30 +1,66 @@
 //! Writing a whole certificate.
 
-ghost use Rattle.std.specs.Prelude.{◌≡◌, ◌≢◌, ◌<◌, ◌≤◌, Err, None, OnOk, length};
+ghost use Rattle.std.specs.Prelude.{◌≡◌, ◌≢◌, ◌<◌, ◌≤◌, ◌++◌, Err, IsOk, None, OnErr, OnOk, length, vec_capacity};
 ghost use Rattle.std.specs.List.{AllByRecursion};
 ghost use Rattle.cert_law.specs.Rests.{entries_of};
 ghost use Rattle.cert_law.specs.Writer.{written_certificate};
 ghost use Rattle.cert_text.specs.HeadRows.{IsUpTo};
 ghost use Rattle.cert_text.specs.Potentials.{IsPotential};
+ghost use Rattle.cert_law.specs.Cases.{matter_of};
 ghost use Rattle.cert_law.specs.Certificates.{Holds};
 ghost use Rattle.cert_writer.specs.Heads.{found_text, head_with};
+ghost use Rattle.cert_writer.specs.Stages.{all_lines};
 ghost use Rattle.cert_writer.specs.Writing.{IsTask};
 ghost use Rattle.claim_writer.specs.Ends.{EndsUnwritten, FailsShort};
+ghost use Rattle.claim_writer.specs.Kept.{KeepsAll};
+ghost use Rattle.fux_grid.specs.Exercises.{columns_in};
 ghost use Rattle.fux_port.specs.Counts.{Rose};
-ghost use Rattle.fux_port.specs.Written.{appended};
+ghost use Rattle.fux_port.specs.Written.{StopsShort, appended};
 
 use crate::begin::{begin, room_for_lines};
 use crate::copy::head_of;
 use crate::head::head_text;
+use crate::lines::Lines;
 use crate::write::{is_within, write_parts};
 use cert_law::{Case, weights_are_small};
 use cert_text::{CertHead, CertWrite, Form};
+use claim_writer::{KeptLines, write_kept};
 use floor_tables::Tables;
 use fux_grid::{Exercise, Score};
-use fux_port::Sink;
+use fux_port::{Failed, Sink};
 use penalty_sheet::Sheet;
 use species_space::SpeciesSpace;
 use std::alloc::Global;
+
+/// Writes the text of a head, and behind it all lines of a certificate, which are few enough: those
+/// that were kept, or else each prefix is judged once more.
+fn write_counted<K: Sink>(
+    lines: &mut Lines,
+    form: Form,
+    case: &Case<'_>,
+    tables: &Tables<'_>,
+    kept: &KeptLines,
+    text: &str,
+    sink: &mut K,
+) -> Result<(), Failed>
+    requires task { IsTask (matter_of case.now) tables.now }
+    requires room { vec_capacity lines.old.walk.levels ≡ columns_in case.now.exercise.now }
+    requires kept { KeepsAll kept.now (all_lines (matter_of case.now) form) }
+    ensures ok { OnOk result (K.written sink.new ≡ appended (K.written sink.old)
+        (text.now ++ all_lines (matter_of case.now) form)) }
+    ensures cause { OnErr result (Rose (K.faults sink.old) (K.faults sink.new)) }
+    ensures err { OnErr result (StopsShort (K.written sink.old) (K.written sink.new)
+        (text.now ++ all_lines (matter_of case.now) form)) }
+    ensures taken { K.serves sink.old (length (text.now ++ all_lines (matter_of case.now) form))
+        → IsOk result }
+    ensures faults { K.faults sink.old ≤ K.faults sink.new }
+{
+    if kept.are_all {
+        return write_kept(text, kept, sink);
+    }
+    begin(lines, form, case, tables);
+    write_parts(lines, case, tables, text, sink)
+}
 
 /// Writes the certificate of a form, of a head that holds.
 pub(crate) fn write_for_head<K: Sink>(
@@ -71,11 +107,11 @@ pub(crate) fn write_for_head<K: Sink>(
         return Err(CertWrite::Memory);
     };
     begin(&mut lines, form, &case, tables);
-    if !is_within(&mut lines, &case, tables, text.len()) {
+    let mut kept = KeptLines::new(alloc);
+    if !is_within(&mut lines, &case, tables, &mut kept, text.len()) {
         return Err(CertWrite::TooLong);
     }
-    begin(&mut lines, form, &case, tables);
-    match write_parts(&mut lines, &case, tables, text.as_str(), sink) {
+    match write_counted(&mut lines, form, &case, tables, &kept, text.as_str(), sink) {
         Ok(()) => Ok(()),
         Err(_) => Err(CertWrite::WriteFault),
     }
@@ -83,9 +119,10 @@ pub(crate) fn write_for_head<K: Sink>(
 
 /// Writes the certificate of a form that states numbers or nothing, of the best setting with its
 /// penalty, or the one that says that no setting is lawful, by the tables that the space has. The
-/// exercise isn't mixed: claims don't name the rules of mixed ones. Its length is counted before its first byte is written, and
-/// all memory is taken before that; then each prefix is judged once more, and each entry read from
-/// the tables again, so that a certificate of any length takes no more memory than a short one.
+/// exercise isn't mixed: claims don't name the rules of mixed ones. Its length is counted before its
+/// first byte is written, and all memory is taken before that. Lines of up to 8 MiB are kept while
+/// they are counted; where they are more, each prefix is judged once more, and each entry read from
+/// the tables again, so that a certificate of any length takes no more memory than that.
 pub fn certify_form<K: Sink>(
     alloc: Global,
     space: &SpeciesSpace<'_>,

@@ -1,9 +1,11 @@
 //! Writing the lines behind the text of a head.
 
-ghost use Rattle.std.specs.Prelude.{◌≡◌, ◌≤◌, ◌↔◌, ◌+◌, ◌++◌, IsOk, IsTrue, OnErr, OnOk, length};
+ghost use Rattle.std.specs.Prelude.{◌≡◌, ◌≤◌, ◌↔◌, ◌+◌, ◌++◌, [], IsOk, IsTrue, OnErr, OnOk, length};
+ghost use Rattle.std.specs.Bool.{OnTrue};
 ghost use Rattle.cert_law.specs.Cases.{matter_of};
 ghost use Rattle.cert_writer.specs.Stages.{AreLines, lines_left};
 ghost use Rattle.cert_writer.specs.Writing.{IsTask};
+ghost use Rattle.claim_writer.specs.Kept.{KeepsAll};
 ghost use Rattle.fux_port.specs.Counts.{Rose};
 ghost use Rattle.fux_port.specs.Written.{StopsShort, appended};
 
@@ -11,45 +13,60 @@ use crate::lines::Lines;
 use crate::next::next_line;
 use arrayvec::ArrayString;
 use cert_law::Case;
+use claim_writer::KeptLines;
 use floor_tables::Tables;
 use fux_port::{Failed, Sink, put, write_all};
 
 /// The most bytes that a certificate may have.
 const MOST_BYTES: usize = 1_073_741_824;
 
-/// Whether the lines that are still to come have no more than so many bytes. It stops at the first
-/// line that is too much.
-fn fit(lines: &mut Lines, case: &Case<'_>, tables: &Tables<'_>, room: usize) -> bool
+/// Whether the lines that are still to come have no more than so many bytes; they are kept where
+/// they have room. It stops at the first line that is too much.
+fn fit(
+    lines: &mut Lines,
+    case: &Case<'_>,
+    tables: &Tables<'_>,
+    kept: &mut KeptLines,
+    room: usize,
+) -> bool
     requires task { IsTask (matter_of case.now) tables.now }
     requires lines { AreLines (matter_of case.now) lines.old }
+    requires kept { KeepsAll kept.old [] }
     ensures lines { AreLines (matter_of case.now) lines.new }
     ensures fits { IsTrue result ↔ (length (lines_left (matter_of case.now) lines.old) ≤ room) }
+    ensures kept { OnTrue result (KeepsAll kept.new (lines_left (matter_of case.now) lines.old)) }
 {
     let mut left = room;
     while let Some(line) = next_line(lines, case, tables) {
-        let size = line.len();
+        let text = line.as_str();
+        let size = text.len();
         if left < size {
             return false;
         }
         left -= size;
+        kept.keep(text);
     }
     true
 }
 
-/// Whether a certificate whose head has so many bytes is within the limit.
+/// Whether a certificate whose head has so many bytes is within the limit; its lines are kept where
+/// they have room.
 pub(crate) fn is_within(
     lines: &mut Lines,
     case: &Case<'_>,
     tables: &Tables<'_>,
+    kept: &mut KeptLines,
     size: usize,
 ) -> bool
     requires task { IsTask (matter_of case.now) tables.now }
     requires lines { AreLines (matter_of case.now) lines.old }
+    requires kept { KeepsAll kept.old [] }
     ensures lines { AreLines (matter_of case.now) lines.new }
     ensures fits { IsTrue result ↔ (size + length (lines_left (matter_of case.now) lines.old)
         ≤ 1073741824) }
+    ensures kept { OnTrue result (KeepsAll kept.new (lines_left (matter_of case.now) lines.old)) }
 {
-    size <= MOST_BYTES && fit(lines, case, tables, MOST_BYTES - size)
+    size <= MOST_BYTES && fit(lines, case, tables, kept, MOST_BYTES - size)
 }
 
 /// Writes the lines that are still to come.

@@ -27,6 +27,10 @@ claim_lines claims = flat_map claim_line claims
 abbrev pub lines_left : {X K : Type 0} → Tree X Claim → Ways X → (X → Claim) → Walk K → List ℕ
 lines_left tree ways own walk = claim_lines (claims_to_come tree own ways walk)
 
--- a text, and behind it the lines of the claims of a root and of all that it owes
+-- the lines of the claims of a root and of all that it owes
+abbrev pub lines_from : {X : Type 0} → Tree X Claim → Ways X → (X → Claim) → X → List ℕ
+lines_from tree ways own root = claim_lines (claims_from tree own ways.height root)
+
+-- a text, and behind it these
 abbrev pub text_with : {X : Type 0} → Tree X Claim → Ways X → (X → Claim) → X → List ℕ → List ℕ
-text_with tree ways own root text = text ++ claim_lines (claims_from tree own ways.height root)
+text_with tree ways own root text = text ++ lines_from tree ways own root

@@ -2,8 +2,10 @@
 //! that is the node's own.
 #![tactic(auto)]
 
+mod kept;
 mod next;
 mod whole;
 mod write;
 
+pub use kept::{KeptLines, write_kept};
 pub use whole::write_with_claims;

@@ -1,22 +1,55 @@
 //! Writing a text with all claims of a tree behind it.
 
-ghost use Rattle.std.specs.Prelude.{◌≡◌, ◌≢◌, ◌<◌, ◌≤◌, Err, OnOk, length};
+ghost use Rattle.std.specs.Prelude.{◌≡◌, ◌≢◌, ◌<◌, ◌≤◌, Err, IsOk, OnErr, OnOk, length, vec_capacity};
 ghost use Rattle.cert_tree.specs.Trees.{AreTrueFrom};
 ghost use Rattle.claim_writer.specs.Ends.{EndsUnwritten, FailsShort};
-ghost use Rattle.claim_writer.specs.Writing.{HaveLines, text_with};
+ghost use Rattle.claim_writer.specs.Kept.{KeepsAll};
+ghost use Rattle.claim_writer.specs.Writing.{HaveLines, lines_from, text_with};
 ghost use Rattle.fux_port.specs.Counts.{Rose};
-ghost use Rattle.fux_port.specs.Written.{appended};
+ghost use Rattle.fux_port.specs.Written.{StopsShort, appended};
 
+use crate::kept::{KeptLines, write_kept};
 use crate::write::{is_within, write_parts};
 use cert_text::{CertWrite, Claim};
-use cert_tree::{ClaimTree, begin_again, room_for_walk};
-use fux_port::Sink;
+use cert_tree::{ClaimTree, Walk, begin_again, room_for_walk};
+use fux_port::{Failed, Sink};
 use std::alloc::Global;
 
+/// Writes a text, and behind it the lines of all claims of a tree, which are few enough: those that
+/// were kept, or else each node is judged once more.
+fn write_counted<T: ClaimTree<Claim = Claim>, K: Sink>(
+    it: &T,
+    walk: &mut Walk<T::Known>,
+    kept: &KeptLines,
+    text: &str,
+    sink: &mut K,
+) -> Result<(), Failed>
+    requires told { AreTrueFrom (T.tree it.now) (T.own it.now) (T.ways it.now).height
+        (T.root it.now) }
+    requires lines { HaveLines (T.own it.now) }
+    requires room { vec_capacity walk.old.levels ≡ (T.ways it.now).height }
+    requires kept { KeepsAll kept.now (lines_from (T.tree it.now) (T.ways it.now) (T.own it.now)
+        (T.root it.now)) }
+    ensures ok { OnOk result (K.written sink.new ≡ appended (K.written sink.old)
+        (text_with (T.tree it.now) (T.ways it.now) (T.own it.now) (T.root it.now) text.now)) }
+    ensures cause { OnErr result (Rose (K.faults sink.old) (K.faults sink.new)) }
+    ensures err { OnErr result (StopsShort (K.written sink.old) (K.written sink.new)
+        (text_with (T.tree it.now) (T.ways it.now) (T.own it.now) (T.root it.now) text.now)) }
+    ensures taken { K.serves sink.old (length (text_with (T.tree it.now) (T.ways it.now)
+        (T.own it.now) (T.root it.now) text.now)) → IsOk result }
+    ensures faults { K.faults sink.old ≤ K.faults sink.new }
+{
+    if kept.are_all {
+        return write_kept(text, kept, sink);
+    }
+    begin_again(it, walk);
+    write_parts(it, walk, text, sink)
+}
+
 /// Writes a text, and behind it the own claim of each node of a tree that is owed, from the root
-/// on. Its length is counted before its first byte is written, and all memory is taken before that;
-/// then each node is judged once more, so that a certificate of any length takes no more memory
-/// than a short one.
+/// on. Its length is counted before its first byte is written, and all memory is taken before that.
+/// Lines of up to 8 MiB are kept while they are counted; where they are more, each node is judged
+/// once more, so that a certificate of any length takes no more memory than that.
 pub fn write_with_claims<T: ClaimTree<Claim = Claim>, K: Sink>(
     alloc: Global,
     it: &T,
@@ -53,11 +86,11 @@ pub fn write_with_claims<T: ClaimTree<Claim = Claim>, K: Sink>(
         return Err(CertWrite::Memory);
     };
     begin_again(it, &mut walk);
-    if !is_within(it, &mut walk, text.len()) {
+    let mut kept = KeptLines::new(alloc);
+    if !is_within(it, &mut walk, &mut kept, text.len()) {
         return Err(CertWrite::TooLong);
     }
-    begin_again(it, &mut walk);
-    match write_parts(it, &mut walk, text, sink) {
+    match write_counted(it, &mut walk, &kept, text, sink) {
         Ok(()) => Ok(()),
         Err(_) => Err(CertWrite::WriteFault),
     }

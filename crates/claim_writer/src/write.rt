@@ -1,10 +1,13 @@
 //! Writing the lines of claims.
 
-ghost use Rattle.std.specs.Prelude.{◌≡◌, ◌≤◌, ◌↔◌, ◌+◌, ◌++◌, IsOk, IsTrue, OnErr, OnOk, length};
+ghost use Rattle.std.specs.Prelude.{◌≡◌, ◌≤◌, ◌↔◌, ◌+◌, ◌++◌, [], IsOk, IsTrue, OnErr, OnOk, length};
+ghost use Rattle.std.specs.Bool.{OnTrue};
+ghost use Rattle.claim_writer.specs.Kept.{KeepsAll};
 ghost use Rattle.fux_port.specs.Counts.{Rose};
 ghost use Rattle.fux_port.specs.Written.{StopsShort, appended};
 ghost use Rattle.claim_writer.specs.Writing.{HaveLines, IsWriting, lines_left};
 
+use crate::kept::KeptLines;
 use crate::next::next_claim;
 use arrayvec::ArrayString;
 use cert_text::{Claim, write_claim};
@@ -14,43 +17,59 @@ use fux_port::{Failed, Sink, put, write_all};
 /// The most bytes that a certificate may have.
 const MOST_BYTES: usize = 1_073_741_824;
 
-/// Whether the lines of the claims that are still to come have no more than so many bytes. It stops
-/// at the first line that is too much.
-fn fit<T: ClaimTree<Claim = Claim>>(it: &T, walk: &mut Walk<T::Known>, room: usize) -> bool
+/// Whether the lines of the claims that are still to come have no more than so many bytes; they are
+/// kept where they have room. It stops at the first line that is too much.
+fn fit<T: ClaimTree<Claim = Claim>>(
+    it: &T,
+    walk: &mut Walk<T::Known>,
+    kept: &mut KeptLines,
+    room: usize,
+) -> bool
     requires writing { IsWriting (T.tree it.now) (T.is_of it.now) (T.ways it.now) (T.own it.now)
         walk.old }
     requires lines { HaveLines (T.own it.now) }
+    requires kept { KeepsAll kept.old [] }
     ensures writing { IsWriting (T.tree it.now) (T.is_of it.now) (T.ways it.now) (T.own it.now)
         walk.new }
     ensures fits { IsTrue result ↔ (length (lines_left (T.tree it.now) (T.ways it.now)
         (T.own it.now) walk.old) ≤ room) }
+    ensures kept { OnTrue result (KeepsAll kept.new (lines_left (T.tree it.now) (T.ways it.now)
+        (T.own it.now) walk.old)) }
 {
     let mut left = room;
     while let Some(claim) = next_claim(it, walk) {
-        let size = write_claim(claim).len();
+        let line = write_claim(claim);
+        let text = line.as_str();
+        let size = text.len();
         if left < size {
             return false;
         }
         left -= size;
+        kept.keep(text);
     }
     true
 }
 
-/// Whether a certificate is within the limit whose text before the claims has so many bytes.
+/// Whether a certificate is within the limit whose text before the claims has so many bytes; the
+/// lines of its claims are kept where they have room.
 pub(crate) fn is_within<T: ClaimTree<Claim = Claim>>(
     it: &T,
     walk: &mut Walk<T::Known>,
+    kept: &mut KeptLines,
     size: usize,
 ) -> bool
     requires writing { IsWriting (T.tree it.now) (T.is_of it.now) (T.ways it.now) (T.own it.now)
         walk.old }
     requires lines { HaveLines (T.own it.now) }
+    requires kept { KeepsAll kept.old [] }
     ensures writing { IsWriting (T.tree it.now) (T.is_of it.now) (T.ways it.now) (T.own it.now)
         walk.new }
     ensures fits { IsTrue result ↔ (size + length (lines_left (T.tree it.now) (T.ways it.now)
         (T.own it.now) walk.old) ≤ 1073741824) }
+    ensures kept { OnTrue result (KeepsAll kept.new (lines_left (T.tree it.now) (T.ways it.now)
+        (T.own it.now) walk.old)) }
 {
-    size <= MOST_BYTES && fit(it, walk, MOST_BYTES - size)
+    size <= MOST_BYTES && fit(it, walk, kept, MOST_BYTES - size)
 }
 
 /// Writes the lines of the claims that are still to come.

@@ -1,7 +1,8 @@
 use Rattle.std.proofs.Common.{◌++◌, ℕ, List, length, string_bytes, ap, ◌∙◌, subst, sym, arith}
+use Rattle.std.proofs.lemmas.Bool.{OnTrue_at}
 use Rattle.cert_law.specs.Cases.{Matter}
-use Rattle.cert_writer.specs.Stages.{lines_left}
-use Rattle.cert_writer.proofs.Certificates.{whole_text, whole_too_long, whole_within}
+use Rattle.cert_writer.specs.Stages.{all_lines}
+use Rattle.cert_writer.proofs.Certificates.{whole_too_long, whole_within}
 use Rattle.fux_port.specs.Written.{StopsShort, appended}
 use Rattle.fux_port.proofs.Stands.{not_ok}
 use Rattle.cert_writer.proofs.certificate.write_for_head.Goals as goal
@@ -18,21 +19,18 @@ returns-then-not-is_within-clause-too_long g c = λ _.
     c.len.result c.is_within.result (c.len.ensures ∙ c.in-Ok.text.bytes.ok.0) c.is_within.ensures.fits
     c.if-not-is_within.true
 
-pub write_parts-requires-clause-lines : goal.write_parts-requires-clause-lines
-write_parts-requires-clause-lines g c =
-    let t : Matter = record { exercise = c.args.ex.now; sheet = c.args.sheet.now; head = c.args.head.now } in
-    c.begin-2.ensures.lines
+pub write_counted-requires-clause-kept : goal.write_counted-requires-clause-kept
+write_counted-requires-clause-kept g c = λ all.
+    OnTrue_at c.if-not-is_within.false c.is_within.ensures.kept all ∙ c.begin.ensures.text
 
-pub returns-in-Ok-write_parts-clause-ok : goal.returns-in-Ok-write_parts-clause-ok
-returns-in-Ok-write_parts-clause-ok g c =
+pub returns-in-Ok-write_counted-clause-ok : goal.returns-in-Ok-write_counted-clause-ok
+returns-in-Ok-write_counted-clause-ok g c =
     let t : Matter = record { exercise = c.args.ex.now; sheet = c.args.sheet.now; head = c.args.head.now } in
-    let lines = lines_left t c.begin-2.new.lines in
-    let whole = ap (λ bs. bs ++ lines) c.as_str.ensures.value
-    ∙ whole_text t c.args.form (string_bytes c.in-Ok.text) c.begin-2.new.lines c.begin-2.ensures c.in-Ok.ensures in
-    c.in-Ok-write_parts.ensures.ok ∙ ap (appended (g.K.Sink.written c.args.sink.now)) whole
+    let whole = ap (λ bs. bs ++ all_lines t c.args.form) (c.as_str.ensures.value ∙ c.in-Ok.ensures) in
+    c.in-Ok-write_counted.ensures.ok ∙ ap (appended (g.K.Sink.written c.args.sink.now)) whole
 
-pub returns-in-Ok-write_parts-clause-fits : goal.returns-in-Ok-write_parts-clause-fits
-returns-in-Ok-write_parts-clause-fits g c = λ more.
+pub returns-in-Ok-write_counted-clause-fits : goal.returns-in-Ok-write_counted-clause-fits
+returns-in-Ok-write_counted-clause-fits g c = λ more.
     let t : Matter = record { exercise = c.args.ex.now; sheet = c.args.sheet.now; head = c.args.head.now } in
     let few = whole_within t c.args.form (string_bytes c.in-Ok.text) c.begin.new.lines c.begin.ensures c.in-Ok.ensures
     c.len.result c.is_within.result (c.len.ensures ∙ c.in-Ok.text.bytes.ok.0) c.is_within.ensures.fits
@@ -42,10 +40,8 @@ returns-in-Ok-write_parts-clause-fits g c = λ more.
 pub returns-clause-short : goal.returns-clause-short
 returns-clause-short g c = λ _.
     let t : Matter = record { exercise = c.args.ex.now; sheet = c.args.sheet.now; head = c.args.head.now } in
-    let lines = lines_left t c.begin-2.new.lines in
-    let whole = ap (λ bs. bs ++ lines) c.as_str.ensures.value
-    ∙ whole_text t c.args.form (string_bytes c.in-Ok.text) c.begin-2.new.lines c.begin-2.ensures c.in-Ok.ensures in
-    subst (λ (bs : List ℕ). StopsShort (g.K.Sink.written c.args.sink.now) (g.K.Sink.written c.write_parts.new.sink) bs)
+    let whole = ap (λ bs. bs ++ all_lines t c.args.form) (c.as_str.ensures.value ∙ c.in-Ok.ensures) in
+    subst (λ (bs : List ℕ). StopsShort (g.K.Sink.written c.args.sink.now) (g.K.Sink.written c.write_counted.new.sink) bs)
     whole c.in-Err.ensures.err
 
 pub returns-clause-fits : goal.returns-clause-fits
@@ -59,9 +55,7 @@ returns-clause-fits g c = λ more.
 pub returns-clause-taken : goal.returns-clause-taken
 returns-clause-taken g c = λ promised fault.
     let t : Matter = record { exercise = c.args.ex.now; sheet = c.args.sheet.now; head = c.args.head.now } in
-    let lines = lines_left t c.begin-2.new.lines in
-    let whole = ap (λ bs. bs ++ lines) c.as_str.ensures.value
-    ∙ whole_text t c.args.form (string_bytes c.in-Ok.text) c.begin-2.new.lines c.begin-2.ensures c.in-Ok.ensures in
+    let whole = ap (λ bs. bs ++ all_lines t c.args.form) (c.as_str.ensures.value ∙ c.in-Ok.ensures) in
     not_ok _ _ c.in-Err.is
-    (c.write_parts.ensures.taken
+    (c.write_counted.ensures.taken
     (subst (λ (bs : List ℕ). g.K.Sink.serves c.args.sink.now (length bs)) (sym whole) promised))
