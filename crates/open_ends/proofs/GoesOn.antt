@@ -61,10 +61,10 @@ module _ (ex : Exercise) (keeps : Keeps) (voices : HasVoices ex) where
   pub passing-followed : FollowsLawful ex passing.nothing (passing.open_in ex keeps) (passing.open_after ex keeps)
   passing-followed =
       let Kept : List (List Cell) → OpenPassing = λ behind. record { origin = passing_in behind v } in
-      followed ex passing.nothing (is_asked ex passing_rule) Kept (passing.still_open ex) (breaks_passing ex) refl
+      followed ex passing.nothing (passing.is_read ex) Kept (passing.still_open ex) (breaks_passing ex) refl
       (λ col behind. refl)
-      (λ asked s lawful i here. neither (left_well ex voices s lawful asked i here)
-      (reached_well ex voices s lawful asked i here))
+      (λ read s lawful i here. neither (left_well ex voices s lawful read i here)
+      (reached_well ex voices s lawful read i here))
     where
       neither : {a b : Bool} → a ≡ false → b ≡ false → (a || b) ≡ false
       neither h k = rw (h, k) refl

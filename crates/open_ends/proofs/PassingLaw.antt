@@ -27,9 +27,9 @@ use Rattle.dissonance_rules.specs.Clashes.{passing_rule}
 use Rattle.dissonance_rules.specs.Passing.{are_same, falls_by_step, has_ornaments, is_good, is_good_in, is_neighbor, is_passing, next_is_clean, starts_clean}
 use Rattle.fux_judge.specs.Lawful.{IsLawful}
 use Rattle.open_ends.specs.Asked.{is_asked}
-use Rattle.open_ends.specs.Passing.{begins_in_clash, is_left_badly, is_reached_badly, may_be_good, passing_in}
+use Rattle.open_ends.specs.Passing.{begins_in_clash, is_left_badly, is_reached_badly, is_read, may_be_good, passing_in}
 use Rattle.open_ends.proofs.Sounding.{previous-no_start, previous-start, sounds_on_in}
-use Rattle.open_ends.proofs.Unbroken.{clashes_well, passing_kept, unmixed}
+use Rattle.open_ends.proofs.Unbroken.{clashes_well, passing_kept}
 use Rattle.open_ends.specs.Parts.{HasVoices}
 
 -- ---- good notes
@@ -93,7 +93,10 @@ parts_hold true false c d k h e f g = cc
 parts_hold false b c d k h e f g = cc
 
 module _ (ex : Exercise) (valid : HasVoices ex) (s : Columns) (lawful : IsLawful ex s)
-    (asked : is_asked ex passing_rule ≡ true) where
+    (read : is_read ex ≡ true) where
+  parts_read : (not (is_mixed ex) ≡ true) × (is_asked ex passing_rule ≡ true)
+  parts_read = and_parts (not (is_mixed ex)) (is_asked ex passing_rule) read
+
   abbrev v : ℕ
   v = ex.species_voice
 
@@ -128,9 +131,9 @@ module _ (ex : Exercise) (valid : HasVoices ex) (s : Columns) (lawful : IsLawful
       clashes_well (now i) v (good i)
       (λ w there differ.
       parts_hold (not (is_mixed ex)) (not (begins_bar i)) (starts (cell_in (now i) v)) (clash (now i) v w) (not (good i))
-      (passing_kept ex valid.most_voices s lawful i here asked v w valid.species_there (omega (arith, there, width)) differ
+      (passing_kept ex valid.most_voices s lawful i here parts_read.1 v w valid.species_there (omega (arith, there, width)) differ
       free)
-      (unmixed ex passing_rule asked) first.0 first.1)
+      parts_read.0 first.0 first.1)
       parts.1
 
   -- so a step leads to it

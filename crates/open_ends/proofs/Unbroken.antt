@@ -4,7 +4,7 @@
 use Rattle.std.specs.Prelude.{◌≡◌, ℕ, zero, suc, ◌<◌, ◌≤◌, ◌==◌, ◌&&◌, ◌||◌, Bool, true, false, not, nat_lt, List, [], ◌∷◌, Option, Some, None, find, length, pos, if◌then◌else◌, refl}
 use Rattle.std.specs.List.{list_any}
 use Rattle.std.proofs.Common.{ℤ, ◌-ℤ◌, ap, sym, ◌∙◌, subst, inl, inr, arith}
-use Rattle.std.proofs.lemmas.Bool.{and_parts, cases_eq, cases_lt, cond_both, eqb-true, lt-ltb, not-true, or_parts}
+use Rattle.std.proofs.lemmas.Bool.{cases_eq, cases_lt, cond_both, eqb-true, lt-ltb, not-true, or_parts}
 use Rattle.std.proofs.lemmas.Int.{ints}
 use Rattle.std.proofs.lemmas.List.{get_or_past}
 use Rattle.fux_pitch.specs.declared.interval.Interval.{Interval}
@@ -17,7 +17,7 @@ use Rattle.fux_grid.specs.declared.exercise.Exercise.{Exercise}
 use Rattle.fux_grid.specs.declared.exercise.Relax.{Relax}
 use Rattle.fux_grid.specs.Cells.{cell_in, pitch_of}
 use Rattle.fux_grid.specs.Columns.{Columns}
-use Rattle.fux_grid.specs.Exercises.{bar_of, is_mixed}
+use Rattle.fux_grid.specs.Exercises.{bar_of}
 use Rattle.rule_law.specs.Forms as forms
 use Rattle.rule_law.specs.Places.{reading_of}
 use Rattle.rule_law.specs.Terms.{clash, holds_of, interval_of_pitches, is_clean, is_lowest}
@@ -54,13 +54,10 @@ no_line rule voices bar (line ∷ lines) h =
 
 strict_everywhere : (ex : Exercise) (rule voices i : ℕ) → is_asked ex rule ≡ true → is_strict_at rule ex voices i ≡ true
 strict_everywhere ex rule voices i asked =
-    let unrelaxed = not-true (is_relaxed ex rule) (and_parts (not (is_mixed ex)) (not (is_relaxed ex rule)) asked).1 in
+    let unrelaxed = not-true (is_relaxed ex rule) asked in
     ap (λ line. is_strict (if nat_lt rule 4 then Strict else line_price line))
     (no_line rule voices (bar_of i) ex.relax unrelaxed)
     ∙ cond_both (nat_lt rule 4) Strict Strict (λ price. is_strict price ≡ true) (λ e. refl) (λ e. refl)
-
-pub unmixed : (ex : Exercise) (rule : ℕ) → is_asked ex rule ≡ true → not (is_mixed ex) ≡ true
-unmixed ex rule asked = (and_parts (not (is_mixed ex)) (not (is_relaxed ex rule)) asked).0
 
 -- ---- two voices
 

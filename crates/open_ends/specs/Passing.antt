@@ -5,7 +5,7 @@ use Rattle.fux_grid.specs.declared.cell.Cell.{Cell}
 use Rattle.fux_grid.specs.declared.exercise.Exercise.{Exercise}
 use Rattle.fux_grid.specs.Cells.{cell_in, pitch_of}
 use Rattle.fux_grid.specs.Columns.{newest_column}
-use Rattle.fux_grid.specs.Exercises.{species_in}
+use Rattle.fux_grid.specs.Exercises.{is_mixed, species_in}
 use Rattle.rule_law.specs.Bars.{begins_bar}
 use Rattle.rule_law.specs.Degrees.{lies_above}
 use Rattle.rule_law.specs.Terms.{holds_of, interval_of_pitches, is_clean, is_step, starts}
@@ -64,10 +64,14 @@ is_reached_badly i before now v =
 abbrev pub nothing : OpenPassing
 nothing = record { origin = None }
 
+-- S15 is read of one species alone
+abbrev pub is_read : Exercise → Bool
+is_read ex = not (is_mixed ex) && is_asked ex passing_rule
+
 -- what waits of the species voice behind some columns, if S15 is asked
 abbrev pub open_in : Waits OpenPassing
 open_in ex keeps p =
-    if is_asked ex passing_rule then record { origin = passing_in (reverse p) ex.species_voice } else nothing
+    if is_read ex then record { origin = passing_in (reverse p) ex.species_voice } else nothing
 
 -- a column breaks S15 in every setting that goes on so: it leaves badly what waits, or reaches a
 -- clash badly
@@ -83,5 +87,5 @@ still_open ex i waiting before now =
 
 abbrev pub open_after : Step OpenPassing
 open_after ex keeps i waiting before now =
-    where_read (is_asked ex passing_rule) (breaks_passing ex i waiting before now) nothing
+    where_read (is_read ex) (breaks_passing ex i waiting before now) nothing
     (still_open ex i waiting before now)

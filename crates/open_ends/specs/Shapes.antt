@@ -3,16 +3,16 @@ use Rattle.std.specs.Prelude.{ℕ, ◌+◌, ◌==◌, Bool, not, ◌&&◌, List,
 use Rattle.fux_grid.specs.declared.cell.Cell.{Cell}
 use Rattle.fux_grid.specs.declared.exercise.Exercise.{Exercise}
 use Rattle.fux_grid.specs.Cells.{cell_in}
-use Rattle.fux_grid.specs.Exercises.{is_mixed}
+use Rattle.fux_grid.specs.Exercises.{species_in}
 use Rattle.rule_law.specs.Bars.{begins_bar}
 use Rattle.rhythm_cadence.specs.Parts.{shapes_after, shapes_begun}
 use Rattle.open_ends.specs.declared.shapes.OpenShapes.{OpenShapes}
 use Rattle.open_ends.specs.Parts.{Step, Waits}
 
--- one species is given, and it is the fifth: in the others the slot alone tells nearly all of a
+-- the species voice goes by the fifth species: in the others the slot alone tells nearly all of a
 -- bar's shape
 abbrev pub is_florid : Exercise → Bool
-is_florid ex = not (is_mixed ex) && (ex.species == 5)
+is_florid ex = species_in ex ex.species_voice == 5
 
 -- no shape is open
 abbrev pub nothing : OpenShapes

@@ -3,7 +3,7 @@
 ghost use Rattle.std.specs.Prelude.{◌≡◌};
 ghost use Rattle.open_ends.specs.Asked as words;
 
-use fux_grid::{Exercise, is_mixed};
+use fux_grid::Exercise;
 
 /// Whether some relax line of the exercise is of the rule, for whatever voices and bars.
 fn is_relaxed(ex: &Exercise, rule: u8) -> bool
@@ -12,9 +12,9 @@ fn is_relaxed(ex: &Exercise, rule: u8) -> bool
     ex.relax.as_slice().iter().any(|line| line.rule == rule)
 }
 
-/// Whether a break of the rule is strict everywhere in the exercise, whose species aren't mixed.
+/// Whether a break of the rule is strict everywhere in the exercise.
 pub fn is_asked(ex: &Exercise, rule: u8) -> bool
     ensures { result ≡ words.is_asked ex.now rule }
 {
-    !is_mixed(ex) && !is_relaxed(ex, rule)
+    !is_relaxed(ex, rule)
 }

@@ -8,7 +8,7 @@ use crate::keeps::Keeps;
 use crate::keys::{key_of, mixed};
 use crate::part::OpenPart;
 use dissonance_rules::{falls_by_step, is_neighbor, is_passing};
-use fux_grid::{Cell, Exercise, cell_of, species_of};
+use fux_grid::{Cell, Exercise, cell_of, is_mixed, species_of};
 use fux_pitch::Pitch;
 use rhythm_cadence::is_step_apart;
 use rule_law::{begins_bar, is_clean, lies_above, starts};
@@ -120,6 +120,13 @@ fn breaks_passing(
     is_left_badly(species, waiting.origin, before, now, v) || is_reached_badly(i, before, now, v)
 }
 
+/// Whether S15 is read: of one species alone, where no line relaxes it.
+fn is_read(ex: &Exercise) -> bool
+    ensures { result ≡ words.is_read ex.now }
+{
+    !is_mixed(ex) && is_asked(ex, 15)
+}
+
 impl OpenPart for OpenPassing {
     ghost nothing = { words.nothing };
 
@@ -147,7 +154,7 @@ impl OpenPart for OpenPassing {
         before: &[Cell],
         now: &[Cell],
     ) -> Option<OpenPassing> {
-        if !is_asked(ex, 15) {
+        if !is_read(ex) {
             return Some(OpenPassing::none());
         }
         if breaks_passing(ex, i, kept, before, now) {

@@ -7,7 +7,7 @@ ghost use Rattle.open_ends.specs.Shapes as words;
 use crate::keeps::Keeps;
 use crate::keys::mixed;
 use crate::part::OpenPart;
-use fux_grid::{Cell, Exercise, bar_of, cell_of, is_mixed, slot_of, species_of};
+use fux_grid::{Cell, Exercise, bar_of, cell_of, slot_of, species_of};
 use rhythm_cadence::fitting_shapes;
 use rule_law::begins_bar;
 
@@ -19,11 +19,11 @@ pub struct OpenShapes {
     pub possible: u16,
 }
 
-/// Whether shapes are followed: one species is given, and it is the fifth.
+/// Whether shapes are followed: the species voice goes by the fifth species.
 fn is_florid(ex: &Exercise) -> bool
     ensures { result ≡ words.is_florid ex.now }
 {
-    !is_mixed(ex) && ex.species == 5
+    species_of(ex, ex.species_voice) == 5
 }
 
 /// The shapes that the species voice may still have with a column, where these were possible before

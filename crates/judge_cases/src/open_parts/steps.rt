@@ -5,7 +5,7 @@ ghost use Rattle.std.specs.Prelude.{◌≡◌, ◌≤◌, ◌<◌, length};
 use crate::agree::agree;
 use crate::open_parts::told::Told;
 use crate::open_parts::{cadences, dissonances, parallels, runs, shapes, suspensions, turnings};
-use fux_grid::{Exercise, Score, mixed_as};
+use fux_grid::{Exercise, Score, mixed_as, species_of};
 use open_ends::{
     Both, Keeps, OpenCadences, OpenLigature, OpenParallels, OpenPassing, OpenRuns, OpenShapes,
     OpenSuspensions, OpenTurns,
@@ -40,24 +40,51 @@ fn changes<P: Told>(alloc: Global, ex: &Exercise, score: &Score) -> Result<Strin
     Ok(text)
 }
 
-/// Compares the changes of each case of a part with what they should be, and with none where its
-/// species is one of several.
-fn stand<P: Told>(
-    rt: &impl Abort,
-    alloc: Global,
-    cases: &str,
-    mixed: Option<u8>,
-) -> Result<(), Fail> {
+/// What becomes of a part in an exercise with a species for each of its voices.
+#[derive(Clone, Copy)]
+enum Mixed {
+    /// It is followed as in one species.
+    Followed,
+    /// Nothing waits.
+    Nothing,
+}
+
+/// Compares the changes of each case of a part with what they should be.
+fn stand<P: Told>(rt: &impl Abort, alloc: Global, cases: &str) -> Result<(), Fail> {
     for text in cases.split("\n\n") {
         let (text, wanted) = text.split_once('=').ok_or("nothing wanted")?;
         let case = case_of(alloc, text)?;
         let found = changes::<P>(alloc, &case.exercise, &case.score)?;
         agree(rt, text, found.as_str(), wanted.trim_end());
-        if let Some(species) = mixed {
-            let exercise = mixed_as(&case.exercise, [species; 4]);
-            let found = changes::<P>(alloc, &exercise, &case.score)?;
-            agree(rt, text, found.as_str(), "");
-        }
+    }
+    Ok(())
+}
+
+/// Compares them where each voice is given the species that it has with what becomes of the part
+/// there.
+fn stand_mixed<P: Told>(
+    rt: &impl Abort,
+    alloc: Global,
+    cases: &str,
+    mixed: Mixed,
+) -> Result<(), Fail> {
+    for text in cases.split("\n\n") {
+        let (text, _) = text.split_once('=').ok_or("nothing wanted")?;
+        let case = case_of(alloc, text)?;
+        let ex = &case.exercise;
+        let species = [
+            species_of(ex, 0),
+            species_of(ex, 1),
+            species_of(ex, 2),
+            species_of(ex, 3),
+        ];
+        let exercise = mixed_as(ex, species);
+        let found = changes::<P>(alloc, &exercise, &case.score)?;
+        let wanted = match mixed {
+            Mixed::Followed => changes::<P>(alloc, ex, &case.score)?,
+            Mixed::Nothing => String::new(alloc),
+        };
+        agree(rt, text, found.as_str(), wanted.as_str());
     }
     Ok(())
 }
@@ -65,11 +92,20 @@ fn stand<P: Told>(
 #[test]
 fn cases_stand(rt: HostRuntime) -> Result<(), Fail> {
     let alloc = rt.alloc();
-    stand::<Both<OpenPassing, OpenLigature>>(&rt, alloc, dissonances::CASES, Some(2))?;
-    stand::<OpenShapes>(&rt, alloc, shapes::CASES, Some(5))?;
-    stand::<OpenParallels>(&rt, alloc, parallels::CASES, Some(2))?;
-    stand::<OpenSuspensions>(&rt, alloc, suspensions::CASES, Some(5))?;
-    stand::<OpenCadences>(&rt, alloc, cadences::CASES, Some(1))?;
-    stand::<OpenTurns>(&rt, alloc, turnings::CASES, Some(2))?;
-    stand::<OpenRuns>(&rt, alloc, runs::CASES, None)
+    stand::<Both<OpenPassing, OpenLigature>>(&rt, alloc, dissonances::CASES)?;
+    stand::<OpenShapes>(&rt, alloc, shapes::CASES)?;
+    stand::<OpenParallels>(&rt, alloc, parallels::CASES)?;
+    stand::<OpenSuspensions>(&rt, alloc, suspensions::CASES)?;
+    stand::<OpenCadences>(&rt, alloc, cadences::CASES)?;
+    stand::<OpenTurns>(&rt, alloc, turnings::CASES)?;
+    stand::<OpenRuns>(&rt, alloc, runs::CASES)?;
+
+    // S15 is of one species alone.
+    stand_mixed::<OpenPassing>(&rt, alloc, dissonances::CASES, Mixed::Nothing)?;
+    stand_mixed::<OpenLigature>(&rt, alloc, dissonances::CASES, Mixed::Followed)?;
+    stand_mixed::<OpenShapes>(&rt, alloc, shapes::CASES, Mixed::Followed)?;
+    stand_mixed::<OpenParallels>(&rt, alloc, parallels::CASES, Mixed::Followed)?;
+    stand_mixed::<OpenSuspensions>(&rt, alloc, suspensions::CASES, Mixed::Followed)?;
+    stand_mixed::<OpenCadences>(&rt, alloc, cadences::CASES, Mixed::Followed)?;
+    stand_mixed::<OpenTurns>(&rt, alloc, turnings::CASES, Mixed::Followed)
 }
