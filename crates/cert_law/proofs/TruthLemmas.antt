@@ -1,8 +1,8 @@
 -- The tests of claims tell whether they are true.
-use Rattle.std.proofs.Common.{◌≡◌, ℕ, ◌+◌, Bool, false, List, Option, Some, None, IsTrue, ap, sym, ◌∙◌, subst, true≢false}
-use Rattle.std.specs.Prelude.{IsSomeAnd, option_map, ◌↔◌}
+use Rattle.std.proofs.Common.{◌≡◌, ℕ, ◌+◌, Bool, true, false, List, Option, Some, None, IsTrue, refl, ap, sym, ◌∙◌, subst, true≢false}
+use Rattle.std.specs.Prelude.{IsSomeAnd, is_none, is_some, not, option_map, ◌↔◌}
 use Rattle.cert_text.specs.declared.answers.CertHead.{CertHead}
-use Rattle.cert_text.specs.declared.claim.Claim.TheVariants.{Floor, TheScore}
+use Rattle.cert_text.specs.declared.claim.Claim.TheVariants.{Floor, NoChain, TheScore}
 use Rattle.cert_text.specs.declared.potential.Potential.{Potential}
 use Rattle.cert_law.specs.Claims.{IsNoBetter, IsTrueOf}
 use Rattle.cert_law.specs.Tails.{tail_of, used_floor}
@@ -19,6 +19,17 @@ pub floor-tail : (ex : Exercise) (sheet : Sheet) (stated : Option (List Potentia
     → used_floor ex sheet stated p ≡ option_map (λ r. paid ex sheet p + least_of ex sheet p + r) tail
 unfolding used_floor
 floor-tail ex sheet stated p tail e = ap (option_map (λ r. paid ex sheet p + least_of ex sheet p + r)) (sym e)
+
+-- a test that fails where there is something
+pub none_test : (o : Option ℕ) (b : Bool) → is_some o ≡ not b → b ≡ is_none o
+none_test None true e = refl
+none_test None false e = cc
+none_test (Some x) true e = cc
+none_test (Some x) false e = refl
+
+none_from : (o : Option ℕ) → is_none o ≡ true → o ≡ None
+none_from None h = refl
+none_from (Some x) h = absurd (true≢false (sym h))
 
 module _ (ex : Exercise) (sheet : Sheet) (head : CertHead) (stated : Option (List Potential)) (p : List (List Cell)) where
   pub floor_truth : (b : Bool) (tail : Option ℕ) (r spent cost : ℕ) → tail ≡ tail_of ex sheet stated p → tail ≡ Some r → spent
@@ -51,6 +62,10 @@ module _ (ex : Exercise) (sheet : Sheet) (head : CertHead) (stated : Option (Lis
 
       back : IsSomeAnd (used_floor ex sheet stated p) (IsNoBetter head p) → IsTrue false
       back h = absurd (subst (λ (f : Option ℕ). IsSomeAnd f (IsNoBetter head p)) floor h)
+
+  pub no_chain_truth : (b : Bool) (tail : Option ℕ) → b ≡ is_none tail → tail ≡ tail_of ex sheet stated p
+      → IsTrue b ↔ IsTrueOf ex sheet head stated p NoChain
+  no_chain_truth b tail test is = (λ h. sym is ∙ none_from tail (sym test ∙ h), λ none. test ∙ ap is_none (is ∙ none))
 
   pub setting_truth : (b : Bool) → b ≡ is_setting_of head p → IsTrue b ↔ IsTrueOf ex sheet head stated p TheScore
   setting_truth b test = (λ h. setting_from_test head p (sym test ∙ h), λ h. test ∙ test_from_setting head p h)

@@ -1,6 +1,6 @@
 //! A case with tails, as a tree of claims: its prefixes are the nodes.
 
-ghost use Rattle.std.specs.Prelude.{◌≡◌, ◌↔◌, ◌<◌, ◌≤◌, ◌*◌, [], IsTrue, length};
+ghost use Rattle.std.specs.Prelude.{◌≡◌, ◌↔◌, ◌<◌, ◌≤◌, ◌*◌, [], IfSome, IsTrue, None, length};
 ghost use Rattle.cert_tree.specs.Walks.{IsNextOf, IsOfOpen};
 ghost use Rattle.cert_law.specs.Bases.{HasTails};
 ghost use Rattle.cert_law.specs.Cases.{IsCase, matter_of};
@@ -105,45 +105,127 @@ fn next_step<T: Tails>(
     next_number(tails, i, before, from)
 }
 
-/// Whether a claim is true of an open prefix with the column of a number more. Where the claim is
-/// of a rule of which a strict break is soon told, no more is judged.
-fn is_true_with<T: Tails>(
-    case: &Case<'_>,
-    tails: &T,
-    known: &PrefixKnown,
-    number: usize,
-    claim: Claim,
-) -> bool
+/// Whether no chain goes on from an open prefix with the column of a number more: nothing of it is
+/// judged.
+fn ends_with<T: Tails>(case: &Case<'_>, tails: &T, known: &PrefixKnown, number: usize) -> bool
     requires case { IsCase (matter_of case.now) }
     requires tails { HasTails (matter_of case.now) (T.basis tails.now) }
     requires step { IsStepOf (tailed_of (matter_of case.now) (T.basis tails.now)) number known.now }
     ensures { IsBehindKnown (tailed_of (matter_of case.now) (T.basis tails.now)) known.now number
         (λ q. IsTrue result
-        ↔ (tree_in (tailed_of (matter_of case.now) (T.basis tails.now))).IsTrueOf q claim) }
+        ↔ (tree_in (tailed_of (matter_of case.now) (T.basis tails.now))).IsTrueOf q Claim.NoChain) }
 {
+    let _ = case;
+    tails
+        .behind(known.judged.state.newest.len, number)
+        .is_none()
+}
+
+/// Whether a claim is true of an open prefix with the column of a number more, by all that is known
+/// of that then.
+fn judge_whole<T: Tails>(
+    case: &Case<'_>,
+    tails: &T,
+    known: &PrefixKnown,
+    number: usize,
+    claim: Claim,
+    found: &mut Option<PrefixKnown>,
+) -> bool
+    requires case { IsCase (matter_of case.now) }
+    requires tails { HasTails (matter_of case.now) (T.basis tails.now) }
+    requires step { IsStepOf (tailed_of (matter_of case.now) (T.basis tails.now)) number known.now }
+    requires none { found.old ≡ None }
+    ensures told { IsBehindKnown (tailed_of (matter_of case.now) (T.basis tails.now)) known.now number
+        (λ q. IsTrue result
+        ↔ (tree_in (tailed_of (matter_of case.now) (T.basis tails.now))).IsTrueOf q claim) }
+    ensures found { IfSome found.new (λ next.
+        IsBehindKnown (tailed_of (matter_of case.now) (T.basis tails.now)) known.now number
+        (IsKnown (tailed_of (matter_of case.now) (T.basis tails.now)) next)) }
+{
+    let next = known_after(case, tails, known, number);
+    *found = Some(next);
+    is_true(case, &next.judged, next.tail, claim)
+}
+
+/// Whether a claim is true of an open prefix with the column of a number more. Where the claim is
+/// of a rule of which a strict break is soon told, or of the chains that go on, no more is judged.
+fn judge_with<T: Tails>(
+    case: &Case<'_>,
+    tails: &T,
+    known: &PrefixKnown,
+    number: usize,
+    claim: Claim,
+    found: &mut Option<PrefixKnown>,
+) -> bool
+    requires case { IsCase (matter_of case.now) }
+    requires tails { HasTails (matter_of case.now) (T.basis tails.now) }
+    requires step { IsStepOf (tailed_of (matter_of case.now) (T.basis tails.now)) number known.now }
+    requires none { found.old ≡ None }
+    ensures told { IsBehindKnown (tailed_of (matter_of case.now) (T.basis tails.now)) known.now number
+        (λ q. IsTrue result
+        ↔ (tree_in (tailed_of (matter_of case.now) (T.basis tails.now))).IsTrueOf q claim) }
+    ensures found { IfSome found.new (λ next.
+        IsBehindKnown (tailed_of (matter_of case.now) (T.basis tails.now)) known.now number
+        (IsKnown (tailed_of (matter_of case.now) (T.basis tails.now)) next)) }
+{
+    if let Claim::NoChain = claim {
+        return ends_with(case, tails, known, number);
+    }
     let column = tails.column(known.judged.state.newest.len, number);
     if is_break_told(case, &known.judged, column, claim) {
         return true;
     }
+    judge_whole(case, tails, known, number, claim, found)
+}
+
+/// The first claim that is true of an open prefix with the column of a number more, by all that is
+/// known of that then.
+fn tell_whole<T: Tails>(
+    case: &Case<'_>,
+    tails: &T,
+    known: &PrefixKnown,
+    number: usize,
+    found: &mut Option<PrefixKnown>,
+) -> Claim
+    requires case { IsCase (matter_of case.now) }
+    requires tails { HasTails (matter_of case.now) (T.basis tails.now) }
+    requires step { IsStepOf (tailed_of (matter_of case.now) (T.basis tails.now)) number known.now }
+    requires none { found.old ≡ None }
+    ensures own { IsBehindKnown (tailed_of (matter_of case.now) (T.basis tails.now)) known.now number
+        (λ q. result ≡ own_in (tailed_of (matter_of case.now) (T.basis tails.now)) q) }
+    ensures found { IfSome found.new (λ next.
+        IsBehindKnown (tailed_of (matter_of case.now) (T.basis tails.now)) known.now number
+        (IsKnown (tailed_of (matter_of case.now) (T.basis tails.now)) next)) }
+{
     let next = known_after(case, tails, known, number);
-    is_true(case, &next.judged, next.tail, claim)
+    *found = Some(next);
+    first_claim(case, &next.judged, next.tail)
 }
 
 /// The first claim that is true of an open prefix with the column of a number more. Where it is of
 /// a rule that is soon told, no more is judged.
-fn claim_with<T: Tails>(case: &Case<'_>, tails: &T, known: &PrefixKnown, number: usize) -> Claim
+fn tell_with<T: Tails>(
+    case: &Case<'_>,
+    tails: &T,
+    known: &PrefixKnown,
+    number: usize,
+    found: &mut Option<PrefixKnown>,
+) -> Claim
     requires case { IsCase (matter_of case.now) }
     requires tails { HasTails (matter_of case.now) (T.basis tails.now) }
     requires step { IsStepOf (tailed_of (matter_of case.now) (T.basis tails.now)) number known.now }
-    ensures { IsBehindKnown (tailed_of (matter_of case.now) (T.basis tails.now)) known.now number
+    requires none { found.old ≡ None }
+    ensures own { IsBehindKnown (tailed_of (matter_of case.now) (T.basis tails.now)) known.now number
         (λ q. result ≡ own_in (tailed_of (matter_of case.now) (T.basis tails.now)) q) }
+    ensures found { IfSome found.new (λ next.
+        IsBehindKnown (tailed_of (matter_of case.now) (T.basis tails.now)) known.now number
+        (IsKnown (tailed_of (matter_of case.now) (T.basis tails.now)) next)) }
 {
     let column = tails.column(known.judged.state.newest.len, number);
     if let Some(rule) = told_break(case, &known.judged, column) {
         return Claim::Broken(rule);
     }
-    let next = known_after(case, tails, known, number);
-    first_claim(case, &next.judged, next.tail)
+    tell_whole(case, tails, known, number, found)
 }
 
 impl<'a, T: Tails> TailedCase<'a, T> {
@@ -217,7 +299,17 @@ impl<'a, T: Tails> ClaimTree for TailedCase<'a, T> {
     }
 
     fn is_true_behind(&self, known: &PrefixKnown, number: usize, claim: Claim) -> bool {
-        is_true_with(&self.case, self.tails, known, number, claim)
+        judge_with(&self.case, self.tails, known, number, claim, &mut None)
+    }
+
+    fn judge_behind(
+        &self,
+        known: &PrefixKnown,
+        number: usize,
+        claim: Claim,
+        found: &mut Option<PrefixKnown>,
+    ) -> bool {
+        judge_with(&self.case, self.tails, known, number, claim, found)
     }
 
     fn own_claim(&self, known: &PrefixKnown) -> Claim {
@@ -225,6 +317,15 @@ impl<'a, T: Tails> ClaimTree for TailedCase<'a, T> {
     }
 
     fn own_claim_behind(&self, known: &PrefixKnown, number: usize) -> Claim {
-        claim_with(&self.case, self.tails, known, number)
+        tell_with(&self.case, self.tails, known, number, &mut None)
+    }
+
+    fn tell_behind(
+        &self,
+        known: &PrefixKnown,
+        number: usize,
+        found: &mut Option<PrefixKnown>,
+    ) -> Claim {
+        tell_with(&self.case, self.tails, known, number, found)
     }
 }

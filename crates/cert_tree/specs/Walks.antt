@@ -132,6 +132,10 @@ pub record IsWalk {X C K : Type 0} (tree : Tree X C) (IsOf : K → X → Type 0)
   pub root : IfSome walk.root (λ known. IsOf known ways.root)
   pub room : vec_capacity walk.levels ≡ ways.height
 
+-- what was found is known of the node, where something was found
+abbrev pub IsFound : {X K : Type 0} → (K → X → Type 0) → X → Option K → Type 0
+IsFound IsOf p found = IfSome found (λ known. IsOf known p)
+
 -- where the claim is that the next node is open, it is
 abbrev pub CanGoOn : {X C : Type 0} → Tree X C → X → Bool → Type 0
 CanGoOn tree p is_open = is_open ≡ true → (claim : _) × (tree.is_open claim ≡ true) × tree.IsTrueOf p claim

@@ -1,6 +1,6 @@
 //! Trees with claims that can be judged.
 
-ghost use Rattle.std.specs.Prelude.{◌≡◌, ◌↔◌, ℕ, ◌≤◌, IsTrue};
+ghost use Rattle.std.specs.Prelude.{◌≡◌, ◌↔◌, ℕ, ◌≤◌, IfSome, IsTrue, None};
 ghost use Rattle.cert_tree.specs.Trees.{Excludes, Tree};
 ghost use Rattle.cert_tree.specs.Walks.{AreWays, IsBehind, IsNextOf, IsOfOpen, IsOfSome, IsOfStep, Ways};
 
@@ -81,6 +81,25 @@ pub trait ClaimTree {
         self.is_true(&next, claim)
     }
 
+    /// As `is_true_behind`. What is known of that node is kept, where it is found on the way.
+    fn judge_behind(
+        &self,
+        known: &Self::Known,
+        number: usize,
+        claim: Self::Claim,
+        found: &mut Option<Self::Known>,
+    ) -> bool
+        requires step { IsOfStep (tree self.now) (is_of self.now) (ways self.now) number known.now }
+        requires none { found.old ≡ None }
+        ensures told { IsBehind (is_of self.now) (ways self.now) known.now number
+            (λ p. IsTrue result ↔ (tree self.now).IsTrueOf p claim) }
+        ensures found { IfSome found.new (λ next. IsBehind (is_of self.now) (ways self.now)
+            known.now number (is_of self.now next)) }
+    {
+        let _ = found;
+        self.is_true_behind(known, number, claim)
+    }
+
     /// The claim that is written of a node.
     fn own_claim(&self, known: &Self::Known) -> Self::Claim
         requires { IsOfSome (is_of self.now) known.now }
@@ -95,6 +114,24 @@ pub trait ClaimTree {
     {
         let next = self.behind(known, number);
         self.own_claim(&next)
+    }
+
+    /// As `own_claim_behind`. What is known of that node is kept, where it is found on the way.
+    fn tell_behind(
+        &self,
+        known: &Self::Known,
+        number: usize,
+        found: &mut Option<Self::Known>,
+    ) -> Self::Claim
+        requires step { IsOfStep (tree self.now) (is_of self.now) (ways self.now) number known.now }
+        requires none { found.old ≡ None }
+        ensures own { IsBehind (is_of self.now) (ways self.now) known.now number (λ p. result
+            ≡ own self.now p) }
+        ensures found { IfSome found.new (λ next. IsBehind (is_of self.now) (ways self.now)
+            known.now number (is_of self.now next)) }
+    {
+        let _ = found;
+        self.own_claim_behind(known, number)
     }
 
     /// The ways go through the tree.

@@ -76,13 +76,14 @@ pub fn feed<T: ClaimTree>(
     if let Some(refused) = judging.refusal {
         return Err(refused);
     }
-    let Some(told) = is_next_true(it, &judging.walk, claim) else {
+    let mut found = None;
+    let Some(told) = is_next_true(it, &judging.walk, claim, &mut found) else {
         return refuse(judging, Cause::Over);
     };
     if !told {
         return refuse(judging, Cause::False);
     }
-    go_on(it, &mut judging.walk, it.is_open(claim));
+    go_on(it, &mut judging.walk, it.is_open(claim), &found);
     judging.taken += 1;
     Ok(())
 }

@@ -3,7 +3,7 @@
 ghost use Rattle.std.specs.Prelude.{◌≡◌, ◌≤◌, ◌↔◌, ◌<◌, ◌++◌, ◌∷◌, [], List, None, IfSome, IsTrue, length, vec_capacity};
 ghost use Rattle.std.specs.Bool.{OnFalse, OnTrue};
 ghost use Rattle.cert_tree.specs.declared.walk.Level.{Level as ALevel};
-ghost use Rattle.cert_tree.specs.Walks.{AreLevels, CanGoOn, IsOpen, IsWalk, OwesNext, levels_of, node_at, owed_after, owed_by_walk, owed_from, owed_later};
+ghost use Rattle.cert_tree.specs.Walks.{AreLevels, CanGoOn, IsFound, IsOpen, IsWalk, OwesNext, levels_of, node_at, owed_after, owed_by_walk, owed_from, owed_later};
 
 use crate::claim_tree::ClaimTree;
 
@@ -100,15 +100,20 @@ fn known_next<T: ClaimTree>(it: &T, walk: &Walk<T::Known>) -> Option<T::Known>
     Some(it.behind(&level.parent, level.number))
 }
 
-/// Whether a claim is true of the node that is owed next, where there is one.
+/// Whether a claim is true of the node that is owed next, where there is one. What is known of it
+/// is kept, where it is found on the way.
 pub(crate) fn is_next_true<T: ClaimTree>(
     it: &T,
     walk: &Walk<T::Known>,
     claim: T::Claim,
+    found: &mut Option<T::Known>,
 ) -> Option<bool>
     requires walk { IsWalk (T.tree it.now) (T.is_of it.now) (T.ways it.now) walk.now }
+    requires none { found.old ≡ None }
     ensures told { IfSome result (λ told. IsTrue told
         ↔ (T.tree it.now).IsTrueOf (node_at (T.ways it.now) (levels_of walk.now)) claim) }
+    ensures found { IsFound (T.is_of it.now) (node_at (T.ways it.now) (levels_of walk.now))
+        found.new }
     ensures owes { IfSome result (λ _. OwesNext (T.ways it.now) walk.now) }
     ensures none { result ≡ None → owed_by_walk (T.ways it.now) walk.now ≡ [] }
 {
@@ -120,14 +125,22 @@ pub(crate) fn is_next_true<T: ClaimTree>(
         };
     }
     let level = &walk.levels[count - 1];
-    Some(it.is_true_behind(&level.parent, level.number, claim))
+    Some(it.judge_behind(&level.parent, level.number, claim, found))
 }
 
-/// The claim that is written of the node that is owed next, where there is one.
-pub(crate) fn own_next<T: ClaimTree>(it: &T, walk: &Walk<T::Known>) -> Option<T::Claim>
+/// The claim that is written of the node that is owed next, where there is one. What is known of it
+/// is kept, where it is found on the way.
+pub(crate) fn own_next<T: ClaimTree>(
+    it: &T,
+    walk: &Walk<T::Known>,
+    found: &mut Option<T::Known>,
+) -> Option<T::Claim>
     requires walk { IsWalk (T.tree it.now) (T.is_of it.now) (T.ways it.now) walk.now }
+    requires none { found.old ≡ None }
     ensures own { IfSome result (λ claim. claim
         ≡ T.own it.now (node_at (T.ways it.now) (levels_of walk.now))) }
+    ensures found { IsFound (T.is_of it.now) (node_at (T.ways it.now) (levels_of walk.now))
+        found.new }
     ensures owes { IfSome result (λ _. OwesNext (T.ways it.now) walk.now) }
     ensures none { result ≡ None → owed_by_walk (T.ways it.now) walk.now ≡ [] }
 {
@@ -139,7 +152,7 @@ pub(crate) fn own_next<T: ClaimTree>(it: &T, walk: &Walk<T::Known>) -> Option<T:
         };
     }
     let level = &walk.levels[count - 1];
-    Some(it.own_claim_behind(&level.parent, level.number))
+    Some(it.tell_behind(&level.parent, level.number, found))
 }
 
 /// Whether some node is owed.
@@ -154,19 +167,45 @@ pub(crate) fn owes_some<T: ClaimTree>(it: &T, walk: &Walk<T::Known>) -> bool
     walk.root.is_some()
 }
 
+/// What is known of the node that is owed next: as it was found on the way, or else found here.
+fn found_or_known<T: ClaimTree>(
+    it: &T,
+    walk: &Walk<T::Known>,
+    found: &Option<T::Known>,
+) -> Option<T::Known>
+    requires walk { IsWalk (T.tree it.now) (T.is_of it.now) (T.ways it.now) walk.now }
+    requires found { IsFound (T.is_of it.now) (node_at (T.ways it.now) (levels_of walk.now))
+        found.now }
+    ensures known { IfSome result (λ known. T.is_of it.now known
+        (node_at (T.ways it.now) (levels_of walk.now))) }
+    ensures none { result ≡ None → owed_by_walk (T.ways it.now) walk.now ≡ [] }
+{
+    match found {
+        Some(known) => Some(*known),
+        None => known_next(it, walk),
+    }
+}
+
 /// Goes on from the node that was owed next: where it is open, to those that are longer by a step
-/// first.
-pub fn go_on<T: ClaimTree>(it: &T, walk: &mut Walk<T::Known>, is_open: bool)
+/// first. What is known of it may have been found.
+pub fn go_on<T: ClaimTree>(
+    it: &T,
+    walk: &mut Walk<T::Known>,
+    is_open: bool,
+    found: &Option<T::Known>,
+)
     requires walk { IsWalk (T.tree it.now) (T.is_of it.now) (T.ways it.now) walk.old }
     requires owes { OwesNext (T.ways it.now) walk.old }
     requires parent { CanGoOn (T.tree it.now) (node_at (T.ways it.now) (levels_of walk.old))
         is_open }
+    requires found { IsFound (T.is_of it.now) (node_at (T.ways it.now) (levels_of walk.old))
+        found.now }
     ensures walk { IsWalk (T.tree it.now) (T.is_of it.now) (T.ways it.now) walk.new }
     ensures owed { owed_by_walk (T.ways it.now) walk.new
         ≡ owed_after (T.ways it.now) (levels_of walk.old) is_open }
 {
     if is_open {
-        if let Some(parent) = known_next(it, walk) {
+        if let Some(parent) = found_or_known(it, walk, found) {
             if enter(it, walk, parent, 0) {
                 return;
             }

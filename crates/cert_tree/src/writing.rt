@@ -41,7 +41,8 @@ pub fn next_claim<T: ClaimTree>(it: &T, walk: &mut Walk<T::Known>) -> Option<T::
         ≡ claims_with result (claims_to_come (T.tree it.now) (T.own it.now) (T.ways it.now)
         walk.new) }
 {
-    let claim = own_next(it, walk)?;
-    go_on(it, walk, it.is_open(claim));
+    let mut found = None;
+    let claim = own_next(it, walk, &mut found)?;
+    go_on(it, walk, it.is_open(claim), &found);
     Some(claim)
 }

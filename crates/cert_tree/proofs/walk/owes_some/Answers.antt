@@ -1,1 +1,0 @@
-use Rattle.cert_tree.proofs.walk.owes_some.Goals as goal

@@ -2,10 +2,10 @@ use Rattle.std.proofs.Common.{◌≡◌, ◌++◌, ◌∷◌, [], List, length, 
 use Rattle.cert_law.specs.Cases.{matter_of}
 use Rattle.cert_law.specs.Known.{column_after, own_in, tailed_of}
 use Rattle.cert_law.proofs.FirstLemmas.{first_rule}
-use Rattle.cert_law.proofs.KnownLemmas.{known_small, step_column, step_full, step_goes_on, step_place, step_room, step_small, step_within}
+use Rattle.cert_law.proofs.KnownLemmas.{step_column, step_full, step_goes_on, step_place, step_room, step_within}
 use Rattle.fux_grid.specs.declared.cell.Cell.{Cell}
 use Rattle.rule_law.specs.Prefixes.{GoesOn}
-use Rattle.cert_law.proofs.tailed.claim_with.Goals as goal
+use Rattle.cert_law.proofs.tailed.tell_with.Goals as goal
 
 pub column-column-requires-clause-place : goal.column-column-requires-clause-place
 column-column-requires-clause-place g c =
@@ -32,39 +32,8 @@ told_break-requires-clause-full g c =
     ∙ step_full (tailed_of (matter_of c.args.case.now) basis) basis c.args.known.now c.args.number c.requires.case
     c.requires.tails c.requires.step
 
-pub known_after-next-requires-clause-room : goal.known_after-next-requires-clause-room
-known_after-next-requires-clause-room g c =
-    let basis = g.T.Tails.basis c.args.tails.now in
-    step_place (tailed_of (matter_of c.args.case.now) basis) basis c.args.known.now c.args.number c.requires.case
-    c.requires.tails c.requires.step
-
-pub known_after-next-requires-clause-within : goal.known_after-next-requires-clause-within
-known_after-next-requires-clause-within g c =
-    let basis = g.T.Tails.basis c.args.tails.now in
-    step_within (tailed_of (matter_of c.args.case.now) basis) basis c.args.known.now c.args.number c.requires.case
-    c.requires.tails c.requires.step
-
-pub known_after-next-requires-clause-small : goal.known_after-next-requires-clause-small
-known_after-next-requires-clause-small g c =
-    let basis = g.T.Tails.basis c.args.tails.now in
-    step_small (tailed_of (matter_of c.args.case.now) basis) basis c.args.known.now c.args.number c.requires.case
-    c.requires.tails c.requires.step
-
-pub first_claim-requires : goal.first_claim-requires
-first_claim-requires g c =
-    let basis = g.T.Tails.basis c.args.tails.now in
-    let t = tailed_of (matter_of c.args.case.now) basis in
-    let q = c.requires.step.node in
-    let own = c.requires.step.is_open.is_of in
-    known_small t c.known_after-next.result c.requires.case record {
-      node = q ++ column_after t.case.exercise q c.args.number ∷ [];
-      is_of = c.known_after-next.ensures q own
-          (step_goes_on t basis c.args.known.now c.args.number c.requires.case c.requires.tails c.requires.step q own
-          c.requires.step.step);
-    }
-
-pub returns-in-Some : goal.returns-in-Some
-returns-in-Some g c = λ p is at.
+pub returns-in-Some-clause-own : goal.returns-in-Some-clause-own
+returns-in-Some-clause-own g c = λ p is at.
     let basis = g.T.Tails.basis c.args.tails.now in
     let t = tailed_of (matter_of c.args.case.now) basis in
     let known = c.args.known.now in
@@ -77,11 +46,3 @@ returns-in-Some g c = λ p is at.
     sym (ap (λ d. own_in t (p ++ d ∷ [])) (sym col)
     ∙ first_rule t.case.exercise t.case.sheet t.case.head t.stated (p ++ c.column-column.result.now.items ∷ [])
     c.in-Some.rule told.0 told.1)
-
-pub returns : goal.returns
-returns g c = λ p is at.
-    let basis = g.T.Tails.basis c.args.tails.now in
-    let t = tailed_of (matter_of c.args.case.now) basis in
-    let longer = c.known_after-next.ensures p is
-    (step_goes_on t basis c.args.known.now c.args.number c.requires.case c.requires.tails c.requires.step p is at) in
-    c.first_claim.ensures basis.stated (p ++ column_after t.case.exercise p c.args.number ∷ []) longer.judged longer.tail

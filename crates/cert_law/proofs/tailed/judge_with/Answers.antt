@@ -1,11 +1,13 @@
-use Rattle.std.proofs.Common.{◌≡◌, ◌++◌, ◌∷◌, [], List, length, refl, ap, sym, ◌∙◌, subst}
+use Rattle.std.proofs.Common.{◌≡◌, ◌++◌, ◌∷◌, [], IsTrue, List, length, refl, ap, sym, ◌∙◌, subst}
+use Rattle.std.specs.Prelude.{◌↔◌}
 use Rattle.std.proofs.lemmas.Bool.{OnTrue_at}
 use Rattle.cert_law.specs.Cases.{matter_of}
 use Rattle.cert_law.specs.Known.{column_after, tailed_of, tree_in}
-use Rattle.cert_law.proofs.KnownLemmas.{known_small, step_column, step_full, step_goes_on, step_place, step_room, step_small, step_within}
+use Rattle.cert_law.proofs.KnownLemmas.{step_column, step_full, step_goes_on, step_place, step_room, step_within}
+use Rattle.cert_text.specs.declared.claim.Claim.{Claim}
 use Rattle.fux_grid.specs.declared.cell.Cell.{Cell}
 use Rattle.rule_law.specs.Prefixes.{GoesOn}
-use Rattle.cert_law.proofs.tailed.is_true_with.Goals as goal
+use Rattle.cert_law.proofs.tailed.judge_with.Goals as goal
 
 pub column-column-requires-clause-place : goal.column-column-requires-clause-place
 column-column-requires-clause-place g c =
@@ -32,39 +34,17 @@ is_break_told-requires-clause-full g c =
     ∙ step_full (tailed_of (matter_of c.args.case.now) basis) basis c.args.known.now c.args.number c.requires.case
     c.requires.tails c.requires.step
 
-pub known_after-next-requires-clause-room : goal.known_after-next-requires-clause-room
-known_after-next-requires-clause-room g c =
-    let basis = g.T.Tails.basis c.args.tails.now in
-    step_place (tailed_of (matter_of c.args.case.now) basis) basis c.args.known.now c.args.number c.requires.case
-    c.requires.tails c.requires.step
-
-pub known_after-next-requires-clause-within : goal.known_after-next-requires-clause-within
-known_after-next-requires-clause-within g c =
-    let basis = g.T.Tails.basis c.args.tails.now in
-    step_within (tailed_of (matter_of c.args.case.now) basis) basis c.args.known.now c.args.number c.requires.case
-    c.requires.tails c.requires.step
-
-pub known_after-next-requires-clause-small : goal.known_after-next-requires-clause-small
-known_after-next-requires-clause-small g c =
-    let basis = g.T.Tails.basis c.args.tails.now in
-    step_small (tailed_of (matter_of c.args.case.now) basis) basis c.args.known.now c.args.number c.requires.case
-    c.requires.tails c.requires.step
-
-pub is_true-requires-clause-small : goal.is_true-requires-clause-small
-is_true-requires-clause-small g c =
+pub returns-in-NoChain-clause-told : goal.returns-in-NoChain-clause-told
+returns-in-NoChain-clause-told g c = λ p is at.
     let basis = g.T.Tails.basis c.args.tails.now in
     let t = tailed_of (matter_of c.args.case.now) basis in
-    let q = c.requires.step.node in
-    let own = c.requires.step.is_open.is_of in
-    known_small t c.known_after-next.result c.requires.case record {
-      node = q ++ column_after t.case.exercise q c.args.number ∷ [];
-      is_of = c.known_after-next.ensures q own
-          (step_goes_on t basis c.args.known.now c.args.number c.requires.case c.requires.tails c.requires.step q own
-          c.requires.step.step);
-    }
+    let k = c.args.number in
+    subst (λ (claim : Claim). IsTrue c.ends_with.result ↔ (tree_in t).IsTrueOf (p ++ column_after t.case.exercise p k ∷ [])
+    claim)
+    (sym c.in-NoChain.is) (c.ends_with.ensures p is at)
 
-pub returns-then-is_break_told : goal.returns-then-is_break_told
-returns-then-is_break_told g c = λ p is at.
+pub returns-then-is_break_told-clause-told : goal.returns-then-is_break_told-clause-told
+returns-then-is_break_told-clause-told g c = λ p is at.
     let basis = g.T.Tails.basis c.args.tails.now in
     let t = tailed_of (matter_of c.args.case.now) basis in
     let known = c.args.known.now in
@@ -76,11 +56,3 @@ returns-then-is_break_told g c = λ p is at.
     (subst (λ (d : List Cell). GoesOn t.case.exercise p (d ∷ [])) (sym col) on)
     in
     (λ _. subst (λ (d : List Cell). (tree_in t).IsTrueOf (p ++ d ∷ []) c.args.claim) col told, λ _. refl)
-
-pub returns : goal.returns
-returns g c = λ p is at.
-    let basis = g.T.Tails.basis c.args.tails.now in
-    let t = tailed_of (matter_of c.args.case.now) basis in
-    let longer = c.known_after-next.ensures p is
-    (step_goes_on t basis c.args.known.now c.args.number c.requires.case c.requires.tails c.requires.step p is at) in
-    c.is_true.ensures basis.stated (p ++ column_after t.case.exercise p c.args.number ∷ []) longer.judged longer.tail
