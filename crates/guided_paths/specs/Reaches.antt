@@ -1,5 +1,8 @@
 -- The columns that paths may enter next, and what two cases charge.
-use Rattle.std.specs.Prelude.{ℕ, ◌+◌, ◌-◌, ◌==◌, List, Option, Some, None, Bool, true, option_map, if◌then◌else◌}
+use Rattle.std.specs.Prelude.{◌≡◌, ◌&&◌, ℕ, ◌+◌, ◌-◌, ◌==◌, List, Option, Some, None, Bool, true, option_map, if◌then◌else◌}
+use Rattle.std.specs.Bool.{Decides}
+use Rattle.std.proofs.Common.{ap, ◌∙◌}
+use Rattle.std.proofs.lemmas.Bool.Decides.{Decides-and, Decides-eqb, Decides-like}
 use Rattle.floor_graphs.specs.Graphs.{Rate}
 use Rattle.guided_paths.specs.declared.grid.Grid.{Grid}
 use Rattle.guided_paths.specs.declared.grid.Spot.{Spot}
@@ -38,3 +41,11 @@ grid_reaches case row column = if case == 0 then column == 0 else true
 -- a unit is worth two in the first case, which has a debt of one
 abbrev pub grid_rate : ℕ → Rate
 grid_rate case = if case == 0 then record { scale = 2; debt = 1 } else record { scale = 1; debt = 0 }
+
+-- what may be entered next is the same where both ends are
+pub reach_same : (a b : Reach) → Decides ((a.low == b.low) && (a.high == b.high)) (a ≡ b)
+reach_same a b =
+    let between : ℕ → ℕ → Reach = λ low high. record { low = low; high = high } in
+    Decides-like _ (λ parts. ap (λ n. between n a.high) parts.0 ∙ ap (between b.low) parts.1)
+    (λ e. (ap (λ (r : Reach). r.low) e, ap (λ (r : Reach). r.high) e))
+    (Decides-and _ _ (Decides-eqb a.low b.low) (Decides-eqb a.high b.high))

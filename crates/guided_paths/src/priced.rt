@@ -6,7 +6,7 @@ use crate::grid::{COLUMNS, Grid, Spot};
 use priced_paths::Pricing;
 
 /// The columns that a path may enter next, from the first to the last.
-#[derive(Clone, Copy)]
+#[derive(Clone, Copy, PartialEq, Eq, Hash)]
 pub struct Reach {
     pub low: usize,
     pub high: usize,
@@ -22,7 +22,7 @@ pub struct PricedGrid<'a> {
 
 impl<'a> Pricing for PricedGrid<'a> {
     ghost use Rattle.guided_paths.specs.declared.grid.TheConstants.{COLUMNS};
-    ghost use Rattle.guided_paths.specs.Reaches.{grid_rate, grid_reaches, grid_toll, reach_at, reach_step};
+    ghost use Rattle.guided_paths.specs.Reaches.{grid_rate, grid_reaches, grid_toll, reach_at, reach_same, reach_step};
     ghost use Rattle.guided_paths.specs.Rows.{paid_at};
     ghost use Rattle.guided_paths.specs.GridLaw.{grid_is_priced};
 
@@ -47,6 +47,8 @@ impl<'a> Pricing for PricedGrid<'a> {
     ghost count = { λ _. 2 };
 
     ghost rate_of = { λ _. grid_rate };
+
+    ghost same = { reach_same };
 
     ghost priced = { λ priced. grid_is_priced priced.grid.now priced.some };
 

@@ -164,6 +164,7 @@ impl<'a> Pricing for PricedSpace<'a> {
     ghost use Rattle.species_space.specs.Paths.{prefix_at};
     ghost use Rattle.priced_floors.specs.Charges.{reaches_in, toll_in};
     ghost use Rattle.priced_floors.specs.Kept.{kept_of, step_of};
+    ghost use Rattle.priced_floors.specs.Looked.{kept_same};
     ghost use Rattle.priced_floors.specs.PricedLaws.{breadth_of, rate_in, settings_are_priced};
 
     type Tree = SpeciesSpace<'a>;
@@ -187,6 +188,8 @@ impl<'a> Pricing for PricedSpace<'a> {
     ghost count = { λ priced. length priced.charges.now.summits.items };
 
     ghost rate_of = { λ priced. rate_in priced.space.now.exercise priced.charges.now };
+
+    ghost same = { kept_same };
 
     ghost priced = { λ priced. settings_are_priced priced.space.now.exercise priced.space.now.sheet priced.keeps priced.charges.now priced.voices priced.fair };
 

@@ -3,3 +3,7 @@ pub mod Spots
 pub mod Sums
 pub mod Pushes
 pub mod Mapped
+pub mod Once
+pub mod Listing
+pub mod Puts
+pub mod Laying

@@ -4,3 +4,6 @@ pub mod Webs
 pub mod CaseGraphs
 pub mod Places
 pub mod LeadBacks
+pub mod Sizes
+pub mod Listed
+pub mod Laid

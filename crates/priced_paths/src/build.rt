@@ -2,13 +2,10 @@
 ghost use Rattle.std.specs.Prelude.{◌<◌};
 
 use crate::pricing::Pricing;
-use crate::web::{Edge, MOST_COST, MOST_SPOTS, Spot, Web};
+use crate::web::{Edge, MOST_COST, MOST_EDGES, MOST_SPOTS, Spot, Web};
 use fux_pitch::Memory;
 use std::alloc::Global;
 use tree_search::Space;
-
-/// How many slots a web may have.
-const MOST_EDGES: usize = 6_000_000;
 
 /// How many labels are tried for each slot that there is room for. Most of them make no step, which
 /// is soon told.

@@ -63,7 +63,7 @@ pub struct PricedGuide<'a, P: Pricing> {
 }
 
 /// The numbers of a case.
-fn numbers_in<P: Pricing>(
+pub fn numbers_in<P: Pricing>(
     alloc: Global,
     pricing: &P,
     web: &Web<P::Kept>,

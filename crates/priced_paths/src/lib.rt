@@ -1,6 +1,6 @@
 //! Floors of a tree whose steps are charged beforehand, by cases. Paths are mapped to what is kept
-//! of them, and that to the spots of a web, which any code may make: what is asked of it is that it
-//! passes a check.
+//! of them, and that to the spots of a web: any code may make one that passes a check, and the
+//! whole web is made unless it is too large.
 #![tactic(auto)]
 
 mod build;
@@ -8,9 +8,13 @@ mod case;
 mod guide;
 mod pricing;
 mod search;
+mod states;
 mod web;
+mod whole;
 
-pub use guide::{Place, PricedGuide, Standing, case_numbers, first_place};
+pub use guide::{Place, PricedGuide, Standing, case_numbers, first_place, numbers_in};
 pub use pricing::{MOST_CASES, Pricing};
 pub use search::{search_priced, search_unpriced, search_web, try_web, web_of};
+pub use states::{State, WebFault};
 pub use web::{Edge, MOST_COST, Spot, Web};
+pub use whole::whole_web;

@@ -1,9 +1,10 @@
 //! What a tree's steps are charged.
 ghost use Rattle.std.specs.Prelude.{◌≡◌, ℕ, ◌<◌, ◌≤◌, ◌^◌, [], List, None, Option, Bool, IfSome};
-ghost use Rattle.std.specs.Bool.{OnFalse, OnTrue};
+ghost use Rattle.std.specs.Bool.{Decides, OnFalse, OnTrue};
 ghost use Rattle.floor_graphs.specs.Graphs.{Rate};
 ghost use Rattle.priced_paths.specs.Pricings.{IsLiveNode, IsPriced};
 
+use std::hash::Hash;
 use tree_search::Space;
 
 /// The most cases that may be told apart.
@@ -17,7 +18,7 @@ pub trait Pricing {
     type Tree: Space;
 
     /// What is kept of a path.
-    type Kept: Copy;
+    type Kept: Copy + Eq + Hash;
 
     /// The tree.
     ghost tree: { Self → Self.Tree };
@@ -116,6 +117,9 @@ pub trait Pricing {
         ensures debt { result.1 ≡ (rate_of self.now case).debt }
         ensures some { 0 < result.0 }
         ensures small { result.0 ≤ 2 ^ 12 };
+
+    /// What is kept is the same where it is equal.
+    ghost same: { (one other : Self.Kept) → Decides (Self.Kept.eq one other) (one ≡ other) };
 
     /// Steps are as they are kept, and each leaf is of a case.
     ghost priced: { (pricing : Self) → IsPriced (Self.Tree.live (tree pricing)) (Self.Tree.height (tree pricing))

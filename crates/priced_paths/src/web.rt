@@ -9,6 +9,12 @@ use tree_search::Space;
 /// How many spots a web may have.
 pub const MOST_SPOTS: usize = 4_194_304;
 
+/// How many edges a web may have.
+pub const MOST_EDGES: usize = 6_000_000;
+
+/// How many labels its spots may have.
+pub const MOST_LABELS: usize = 48_000_000;
+
 /// What an edge may cost.
 pub const MOST_COST: u32 = 524_287;
 
