@@ -33,8 +33,8 @@ use Rattle.price_check.specs.Woven.{list_priced}
 use Rattle.price_lists.specs.declared.stated.OwnList.{OwnList}
 use Rattle.price_lists.specs.Owned.{list_owned}
 use Rattle.penalty_sheet.specs.declared.sheet.Sheet.{Sheet}
-use Rattle.price_check.specs.declared.woven.WebFault.{WebFault}
-use Rattle.price_check.specs.declared.woven.WebFault.TheVariants as woven
+use Rattle.priced_paths.specs.declared.states.WebFault.{WebFault}
+use Rattle.priced_paths.specs.declared.states.WebFault.TheVariants as woven
 use Rattle.price_lists.specs.Stated.{AreEachStated, AreStated, StatedList, and_more, first_above, lists_of, price_in, prices_in}
 use Rattle.price_law.specs.PriceLists.{PriceList}
 use Rattle.price_text.specs.Lists.{AreLinesOf, AreLists, lists_text}

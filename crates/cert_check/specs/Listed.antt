@@ -12,8 +12,8 @@ use Rattle.cert_text.specs.declared.answers.Refused.{Refused}
 use Rattle.cert_text.specs.declared.answers.Why.TheVariants as whys
 use Rattle.fux_grid.specs.declared.exercise.Exercise.{Exercise}
 use Rattle.penalty_sheet.specs.declared.sheet.Sheet.{Sheet}
-use Rattle.price_check.specs.declared.woven.WebFault.{WebFault}
-use Rattle.price_check.specs.declared.woven.WebFault.TheVariants as woven
+use Rattle.priced_paths.specs.declared.states.WebFault.{WebFault}
+use Rattle.priced_paths.specs.declared.states.WebFault.TheVariants as woven
 use Rattle.price_lists.specs.Stated.{AreDue, first_high}
 use Rattle.price_text.specs.Lists.{AreLists, lists_in, lists_text}
 use Rattle.price_text.specs.PriceLines.{Line}

@@ -1,15 +1,17 @@
 -- What is kept has a number of its own (`same_keeps`), so lists that keep the same have the same web
--- (`web_moved`), and where there is one for each number, each list has its own (`has_web`).
+-- (`web_moved`), and where there is one for each number, each list has its own (`has_web`), and none
+-- has too large a one (`none_large`).
 use Rattle.std.proofs.Common.{◌≡◌, ⊎_elim, ℕ, ◌+◌, ◌<◌, Bool, true, false, List, [], ◌∷◌, ◌++◌, Option, Some, None, arith, get_or, length, slice_get, slice_index_or, refl, ap, ap₂, subst, sym, ◌∙◌}
-use Rattle.std.specs.Prelude.{if◌then◌else◌}
+use Rattle.std.specs.Prelude.{Err, Result, if◌then◌else◌, map, option_map}
 use Rattle.std.proofs.lemmas.Bool.{cases_lt}
 use Rattle.std.proofs.lemmas.List.{get_or_append_left, get_or_default, get_or_past, get_or_push}
-use Rattle.std.proofs.lemmas.Option.{get_or_from_slice_get}
+use Rattle.std.proofs.lemmas.Option.{get_or_from_slice_get, slice_get-map}
 use Rattle.floor_tables.specs.Tables.{Task}
 use Rattle.fux_grid.specs.Exercises.{columns_in}
 use Rattle.open_ends.specs.declared.keeps.Keeps.{Keeps}
 use Rattle.price_check.specs.declared.priced_list.PricedList.{PricedList}
-use Rattle.price_check.specs.Woven.{AreWebs, HasWeb, IsWebFor, IsWebOf, keeps_number, web_under}
+use Rattle.price_check.specs.Woven.{AreOf, AreWebs, FitsFor, HasLargeWeb, HasWeb, IsLargeList, IsLargeWeb, IsWebFor, IsWebOf, keeps_number, list_priced, web_under}
+use Rattle.price_law.specs.PriceLists.{PriceList}
 use Rattle.priced_floors.specs.declared.kept.Kept.{Kept}
 use Rattle.priced_floors.specs.Kept.{kept_of, step_of}
 use Rattle.priced_floors.specs.PricedLaws.{breadth_of}
@@ -53,16 +55,61 @@ web_moved one other web task number is =
     subst (λ (k : Keeps). IsWebIn other.space.space.now k web) (same_keeps one.space.keeps other.space.keeps number)
     (subst (λ (t : Task). IsWebIn t one.space.keeps web) task is)
 
--- the list that is read at a place is the one there
-pub read_there : (lists : List PricedList) (k : ℕ) (own it : PricedList) → own ≡ get_or lists k own
-    → slice_get lists k ≡ Some it → own ≡ it
-read_there lists k own it is there = is ∙ get_or_from_slice_get lists k it own there
-
+-- it is one of four
 keeps_few : (a b : Bool) → (if a then 2 else 0) + (if b then 1 else 0) < 4
 keeps_few true true = omega arith
 keeps_few true false = omega arith
 keeps_few false true = omega arith
 keeps_few false false = omega arith
+
+abbrev IsLargeIn : Task → Keeps → Type 0
+IsLargeIn task keeps = IsLargeWeb task.exercise task.sheet keeps
+
+-- so what a list keeps makes too large a web where it does so for such a list
+pub large_moved : (one other : PricedList) → one.space.space.now ≡ other.space.space.now
+    → keeps_number one.space.keeps ≡ keeps_number other.space.keeps → IsLargeList one → IsLargeList other
+large_moved one other task number is =
+    subst (λ (k : Keeps). IsLargeIn other.space.space.now k) (same_keeps one.space.keeps other.space.keeps number)
+    (subst (λ (t : Task). IsLargeIn t one.space.keeps) task is)
+
+-- a fault is the same in another answer
+pub same_fault : {X Y E : Type 0} (e f : E) → ◌≡◌ {A = Result X E} (Err e) (Err f) → ◌≡◌ {A = Result Y E} (Err e) (Err f)
+same_fault {X} {Y} {E} e f h = ap (λ (x : E). Err x) (same h)
+  where
+    same : ◌≡◌ {A = Result X E} (Err e) (Err f) → e ≡ f
+    same h = cc
+
+-- one of some lists of the settings of an exercise
+pub large_list : (task : Task) (lists : List PricedList) (k : ℕ) (it : PricedList) → AreOf task lists
+    → slice_get lists k ≡ Some it → IsLargeList it → HasLargeWeb task.exercise task.sheet (map list_priced lists)
+large_list task lists k it of there large = record {
+  place = k;
+  list = list_priced it;
+  there = slice_get-map list_priced lists k ∙ ap (option_map list_priced) there;
+  large = subst (λ (t : Task). IsLargeIn t it.space.keeps) (of k it there) large;
+}
+
+-- none is where none is under any number
+pub none_large : (task : Task) (lists : List PricedList) → AreOf task lists → ((n : ℕ) → n < 4 → FitsFor lists n)
+    → HasLargeWeb task.exercise task.sheet (map list_priced lists) → ⊥
+none_large task lists of fits h =
+    at (slice_get lists h.place) refl (sym (slice_get-map list_priced lists h.place) ∙ h.there)
+  where
+    at : (o : Option PricedList) → slice_get lists h.place ≡ o → option_map list_priced o ≡ Some h.list → ⊥
+    at None is e = cc
+    at (Some it) is e =
+        let same : list_priced it ≡ h.list = some_list (list_priced it) h.list e in
+        fits (keeps_number it.space.keeps) (keeps_few it.space.keeps.turns it.space.keeps.runs) h.place it is refl
+        (subst (λ (t : Task). IsLargeIn t it.space.keeps) (sym (of h.place it is))
+        (subst (λ (l : PriceList). IsLargeIn task l.keeps) (sym same) h.large))
+      where
+        some_list : (x y : PriceList) → Some x ≡ Some y → x ≡ y
+        some_list x y e = cc
+
+-- the list that is read at a place is the one there
+pub read_there : (lists : List PricedList) (k : ℕ) (own it : PricedList) → own ≡ get_or lists k own
+    → slice_get lists k ≡ Some it → own ≡ it
+read_there lists k own it is there = is ∙ get_or_from_slice_get lists k it own there
 
 -- where the webs under all numbers are made, each list has its own
 pub has_web : (lists : List PricedList) (webs : List (Option (Web Kept)))

@@ -1,8 +1,10 @@
 -- Lists with the settings that they price, the webs of what they keep, and the numbers worked there.
 use Rattle.std.specs.Prelude.{◌≡◌, ◌≢◌, ℕ, ◌+◌, ◌<◌, ◌≤◌, List, [], Option, Some, None, Vec, length, slice_get, slice_index_or, if◌then◌else◌}
 use Rattle.std.specs.declared.alloc.Global.{Global}
+use Rattle.fux_grid.specs.declared.exercise.Exercise.{Exercise}
 use Rattle.fux_grid.specs.Exercises.{columns_in}
 use Rattle.open_ends.specs.declared.keeps.Keeps.{Keeps}
+use Rattle.penalty_sheet.specs.declared.sheet.Sheet.{Sheet}
 use Rattle.floor_tables.specs.Tables.{Task}
 use Rattle.price_check.specs.declared.priced_list.PricedList.{PricedList}
 use Rattle.price_law.specs.PriceLists.{PriceList, case_in}
@@ -13,6 +15,7 @@ use Rattle.priced_floors.specs.PricedLaws.{breadth_of}
 use Rattle.priced_paths.specs.declared.pricing.TheConstants.{MOST_CASES}
 use Rattle.priced_paths.specs.declared.web.Web.{Web}
 use Rattle.priced_paths.specs.Places.{AreNumbersOf, numbers_of}
+use Rattle.priced_paths.specs.Sizes.{IsTooLarge}
 use Rattle.priced_paths.specs.Webs.{IsWeb}
 
 -- the list
@@ -49,6 +52,26 @@ IsWebFor lists number None =
     (j : ℕ) (it : PricedList) → slice_get lists j ≡ Some it → keeps_number it.space.keeps ≢ number
 IsWebFor lists number (Some web) =
     (j : ℕ) (it : PricedList) → slice_get lists j ≡ Some it → keeps_number it.space.keeps ≡ number → IsWebOf it.space web
+
+-- what is kept of the settings of an exercise makes too large a web
+abbrev pub IsLargeWeb : Exercise → Sheet → Keeps → Type 0
+IsLargeWeb ex sheet keeps = IsTooLarge (kept_of ex keeps []) (columns_in ex) (breadth_of ex) (step_of ex sheet keeps)
+
+-- one of the lists keeps what makes too large a web
+pub record HasLargeWeb (ex : Exercise) (sheet : Sheet) (lists : List PriceList) : Type 0 where
+  pub place : ℕ
+  pub list : PriceList
+  pub there : slice_get lists place ≡ Some list
+  pub large : IsLargeWeb ex sheet list.keeps
+
+-- a list keeps what makes too large a web
+abbrev pub IsLargeList : PricedList → Type 0
+IsLargeList it = IsLargeWeb it.space.space.now.exercise it.space.space.now.sheet it.space.keeps
+
+-- none of those does that keep what has a number
+abbrev pub FitsFor : List PricedList → ℕ → Type 0
+FitsFor lists number =
+    (j : ℕ) (it : PricedList) → slice_get lists j ≡ Some it → keeps_number it.space.keeps ≡ number → IsLargeList it → ⊥
 
 -- the lists are of the settings of one exercise by one sheet
 pub record AreOfOne (lists : List PricedList) : Type 0 where

@@ -10,5 +10,6 @@ mod woven;
 
 pub use floors::{ListFloor, MOST_LISTS, first_places, next_places, tail_by};
 pub use priced_list::PricedList;
+pub use priced_paths::WebFault;
 pub use sharp_case::{SharpCase, SharpKnown};
-pub use woven::{WebFault, list_floors, list_numbers, priced_lists, webs_of};
+pub use woven::{list_floors, list_numbers, priced_lists, webs_of};

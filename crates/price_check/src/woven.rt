@@ -1,13 +1,14 @@
 //! Lists with the settings that they price, the webs of what they keep, and the numbers worked there.
 
-ghost use Rattle.std.specs.Prelude.{◌≡◌, ◌≢◌, ◌<◌, ◌≤◌, ℕ, Some, None, length, map, slice_get, IfNone, IfOk, IfSome};
+ghost use Rattle.std.specs.Prelude.{◌≡◌, ◌≢◌, ◌<◌, ℕ, Some, None, Err, length, map, slice_get, IfOk, IfSome, OnOk};
 ghost use Rattle.std.specs.List.{AllByRecursion};
 ghost use Rattle.price_check.specs.Floors.{AreFor, list_of as list_of_floor};
-ghost use Rattle.price_check.specs.Woven.{AreEachNumbers, AreNumbersAt, AreNumbersIn, AreOf, AreOfOne, AreWebs, HasWeb, IsWebFor, list_priced};
+ghost use Rattle.price_check.specs.Woven.{AreEachNumbers, AreNumbersAt, AreNumbersIn, AreOf, AreOfOne, AreWebs, FitsFor, HasLargeWeb, HasWeb, IsWebFor, list_priced};
 ghost use Rattle.price_check.specs.Woven as words;
 ghost use Rattle.price_check.specs.declared.priced_list.PricedList.{PricedList as APriced};
 ghost use Rattle.floor_tables.specs.Tables.{Task};
 ghost use Rattle.price_lists.specs.Owned.{IsFit, list_owned};
+ghost use Rattle.priced_paths.specs.declared.states.WebFault.TheVariants.{TooLarge as too_large};
 
 use crate::floors::ListFloor;
 use crate::priced_list::PricedList;
@@ -16,19 +17,11 @@ use open_ends::Keeps;
 use path_sums::PathSums;
 use price_lists::OwnList;
 use priced_floors::{Kept, PricedSpace};
-use priced_paths::{Web, case_numbers, web_of};
+use priced_paths::{Web, WebFault, case_numbers, whole_web};
 use rayon::prelude::*;
 use species_space::SpeciesSpace;
 use std::alloc::Global;
 use std::thread::Threads;
-
-/// Why there are no webs.
-#[derive(Clone, Copy, Debug, PartialEq, Eq)]
-pub enum WebFault {
-    /// What is kept is too much for a web.
-    TooLarge,
-    Memory,
-}
 
 /// A list with the settings of a space.
 fn priced_list<'a>(
@@ -99,22 +92,30 @@ fn web_with(
     number: usize,
 ) -> Result<Option<Web<Kept>>, WebFault>
     requires { AreOfOne lists.now }
-    ensures { IfOk result (IsWebFor lists.now number) }
+    ensures web { IfOk result (IsWebFor lists.now number) }
+    ensures fits { OnOk result (FitsFor lists.now number) }
+    ensures large { result ≡ Err too_large → (task : Task) → AreOf task lists.now
+        → HasLargeWeb task.exercise task.sheet (map list_priced lists.now) }
 {
     let Some(k) = first_with(lists, number) else {
         return Ok(None);
     };
-    match web_of(alloc, &lists[k].space, usize::MAX) {
-        Ok(Some(web)) => Ok(Some(web)),
-        Ok(None) => Err(WebFault::TooLarge),
-        Err(Memory) => Err(WebFault::Memory),
+    match whole_web(alloc, &lists[k].space) {
+        Ok(web) => Ok(Some(web)),
+        Err(fault) => Err(fault),
     }
 }
 
 /// The webs of what lists keep, each under its number.
 pub fn webs_of(alloc: Global, lists: &[PricedList<'_>]) -> Result<Vec<Option<Web<Kept>>>, WebFault>
     requires { AreOfOne lists.now }
-    ensures { IfOk result (λ webs. AreWebs lists.now webs.items) }
+    ensures webs { IfOk result (λ webs. AreWebs lists.now webs.items) }
+
+    // There are webs wherever none is too large, unless memory is short.
+    ensures fits { OnOk result ((task : Task) → AreOf task lists.now
+        → HasLargeWeb task.exercise task.sheet (map list_priced lists.now) → ⊥) }
+    ensures large { result ≡ Err too_large → (task : Task) → AreOf task lists.now
+        → HasLargeWeb task.exercise task.sheet (map list_priced lists.now) }
 {
     let Ok(mut webs) = Vec::with_capacity(alloc, 4) else {
         return Err(WebFault::Memory);

@@ -16,8 +16,8 @@ use Rattle.list_writer.specs.Stating.{FitBehind}
 use Rattle.penalty_sheet.specs.declared.sheet.Sheet.{Sheet}
 use Rattle.price_check.specs.Sharps.{Sharp, own_in, tree_in}
 use Rattle.price_check.specs.Statements.{stated_tree}
-use Rattle.price_check.specs.declared.woven.WebFault.{WebFault}
-use Rattle.price_check.specs.declared.woven.WebFault.TheVariants as webs
+use Rattle.priced_paths.specs.declared.states.WebFault.{WebFault}
+use Rattle.priced_paths.specs.declared.states.WebFault.TheVariants as webs
 use Rattle.price_text.specs.Lists.{lists_text}
 use Rattle.price_text.specs.PriceLines.{Line}
 use Rattle.price_writer.specs.declared.answers.PricesWrite.{PricesWrite}

@@ -64,12 +64,12 @@ returns-in_err-webs-clause-answers g c =
 pub list_numbers-requires : goal.list_numbers-requires
 list_numbers-requires g c = (
   c.type_bounds.sync-R,
-  rw (c.deref-3.ensures.value, c.deref-4.ensures.value) (rw c.deref-2.ensures.value at c.in_ok-webs.ensures),
+  rw (c.deref-3.ensures.value, c.deref-4.ensures.value) (rw c.deref-2.ensures.value at c.in_ok-webs.ensures.webs),
 )
 
 pub list_floors-requires-clause-webs : goal.list_floors-requires-clause-webs
 list_floors-requires-clause-webs g c =
-    rw (c.deref-5.ensures.value, c.deref-6.ensures.value) (rw c.deref-2.ensures.value at c.in_ok-webs.ensures)
+    rw (c.deref-5.ensures.value, c.deref-6.ensures.value) (rw c.deref-2.ensures.value at c.in_ok-webs.ensures.webs)
 
 pub new-it-requires-clause-case : goal.new-it-requires-clause-case
 new-it-requires-clause-case g c =

@@ -42,13 +42,13 @@ pub list_numbers-requires : goal.list_numbers-requires
 list_numbers-requires g c = (
   c.type_bounds.sync-R,
   same_webs c.deref-2.result.now c.deref-3.result.now c.in_ok-webs.webs.items c.deref-4.result.now
-      (c.deref-2.ensures.value ∙ sym c.deref-3.ensures.value) (sym c.deref-4.ensures.value) c.in_ok-webs.ensures,
+      (c.deref-2.ensures.value ∙ sym c.deref-3.ensures.value) (sym c.deref-4.ensures.value) c.in_ok-webs.ensures.webs,
 )
 
 pub list_floors-requires-clause-webs : goal.list_floors-requires-clause-webs
 list_floors-requires-clause-webs g c =
     same_webs c.deref-2.result.now c.deref-5.result.now c.in_ok-webs.webs.items c.deref-6.result.now
-    (c.deref-2.ensures.value ∙ sym c.deref-5.ensures.value) (sym c.deref-6.ensures.value) c.in_ok-webs.ensures
+    (c.deref-2.ensures.value ∙ sym c.deref-5.ensures.value) (sym c.deref-6.ensures.value) c.in_ok-webs.ensures.webs
 
 pub list_floors-requires-clause-numbers : goal.list_floors-requires-clause-numbers
 list_floors-requires-clause-numbers g c =
