@@ -9,7 +9,7 @@ use Rattle.cert_file.specs.declared.fault.ReadFault.TheVariants.{Text, Unreadabl
 use Rattle.cert_file.specs.declared.fault.ReadFault.{ReadFault}
 use Rattle.cert_file.specs.Readings.{Files, MayBe, Piece, reading_from}
 use Rattle.cert_file.proofs.PieceLemmas.{nothing_begins}
-use Rattle.cert_check.specs.Settings.{Asked, HasPricedHead, IsListed, IsOpeningText, IsVerdictOn, Numbers, Opening, RefusesFront, setting_subject}
+use Rattle.cert_check.specs.Settings.{Asked, HasLargeLists, IsListed, IsOpeningText, IsVerdictOn, Numbers, Opening, RefusesFront, setting_subject}
 use Rattle.cert_check.specs.Starts.{IsStarted, Starts}
 use Rattle.cert_file.specs.Subjects.{IsOpened}
 use Rattle.cert_text.specs.declared.answers.CertFault.TheVariants.{CertHead as WrongHead, CertWord, CertEnd, Memory}
@@ -90,7 +90,7 @@ module _ (ex : Exercise) (sheet : Sheet) (files : Files) (name : List ℕ) (rose
       inr (subst (λ fs. IsMissing fs name) same missing)
   answers_moved earlier first (Err (check.TooWide place count)) same so made = made
   answers_moved earlier first (Err check.TooLarge) same so made =
-      subst (λ fs. MayBe fs name (HasPricedHead ex)) same made
+      subst (λ fs. MayBe fs name (HasLargeLists ex sheet)) same made
   answers_moved earlier first (Err check.Memory) same so made = tt
 
   -- no menu is told to be too wide where none is

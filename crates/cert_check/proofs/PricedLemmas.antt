@@ -6,7 +6,7 @@ use Rattle.std.specs.Prelude.{IfOk, if◌then◌else◌}
 use Rattle.std.specs.Io.{StartsWith}
 use Rattle.std.proofs.Math.Seq.{drop-append_seam}
 use Rattle.cert_check.specs.Answers.{Answers, IsHeadless, unstarted}
-use Rattle.cert_check.specs.Listed.{AreTaken, TellsFront, TellsStop, unwoven}
+use Rattle.cert_check.specs.Listed.{AreTaken, IsFrontSound, TellsFront, TellsStop, unwoven}
 use Rattle.cert_check.specs.Settings.{HasLists, IsOpeningText, Lists, RefusesFront}
 use Rattle.cert_check.specs.Starts.{IsStarted}
 use Rattle.cert_file.specs.Readings.{Begins, Files, MayBe, Piece, Reading, longest_piece, reading_from}
@@ -29,6 +29,7 @@ use Rattle.fux_grid.specs.Exercises.{IsValid}
 use Rattle.price_check.specs.declared.floors.ListFloor.{ListFloor}
 use Rattle.price_check.specs.declared.priced_list.PricedList.{PricedList}
 use Rattle.price_check.specs.Floors.{AreFor, list_of}
+use Rattle.price_check.specs.Statements.{HasLargeStated}
 use Rattle.price_check.specs.Woven.{list_priced}
 use Rattle.price_lists.specs.declared.stated.OwnList.{OwnList}
 use Rattle.price_lists.specs.Owned.{list_owned}
@@ -160,13 +161,14 @@ module _ (ex : Exercise) (sheet : Sheet) (files : Files) (name : List ℕ) (rose
   }
 
   -- where there are no webs
-  pub unwoven_answer : (fault : WebFault) → Answers ex sheet files name rose (Err (unwoven fault))
-  unwoven_answer woven.TooLarge = record {
+  pub unwoven_answer : (fault : WebFault) → IsFrontSound ex sheet head lines
+      → (fault ≡ woven.TooLarge → HasLargeStated ex sheet lines) → Answers ex sheet files name rose (Err (unwoven fault))
+  unwoven_answer woven.TooLarge front large = record {
     bytes = bytes;
     had = opened.at.begins.had;
-    such = record { front = opened.heads.front; head = head; begins = own_head; heads = opened.heads.heads };
+    such = record { head = head; sound = front.sound; lists = own_lists; due = front.due; large = large refl };
   }
-  unwoven_answer woven.Memory = tt
+  unwoven_answer woven.Memory front large = tt
 
 -- ---- a case with lists, by the names of what a space is of
 

@@ -6,7 +6,7 @@ use Rattle.cert_file.specs.declared.fault.ReadFault.{ReadFault}
 use Rattle.cert_file.specs.declared.fault.ReadFault.TheVariants as reading
 use Rattle.cert_file.specs.Readings.{Files, MayBe}
 use Rattle.cert_text.specs.declared.answers.CertFault.TheVariants.{CertHead as WrongHead, Memory as NoMemory}
-use Rattle.cert_check.specs.Settings.{HasPricedHead, IsVerdictOn}
+use Rattle.cert_check.specs.Settings.{HasLargeLists, IsVerdictOn}
 use Rattle.cert_check.specs.declared.checking.CheckFault.{CheckFault}
 use Rattle.cert_check.specs.declared.checking.CheckFault.TheVariants.{Unreadable, TooWide, TooLarge, Memory}
 use Rattle.cert_file.specs.declared.verdict.Verdict.{Verdict}
@@ -22,13 +22,13 @@ abbrev pub VerdictsAreOne : Type 0
 VerdictsAreOne = (ex : Exercise) (sheet : Sheet) (bytes : List ℕ) (it other : Verdict) → IsValid ex
     → IsVerdictOn ex sheet it bytes → IsVerdictOn ex sheet other bytes → it ≡ other
 
--- how a file is answered: by the verdict on it, or why there is none. Only what prices ask for can be
--- too large
+-- how a file is answered: by the verdict on it, or why there is none; it is that lists are too large
+-- only where one of them is
 abbrev pub Answers : Exercise → Sheet → Files → List ℕ → Type 0 → Result Verdict CheckFault → Type 0
 Answers ex sheet files name rose (Ok it) = MayBe files name (IsVerdictOn ex sheet it)
 Answers ex sheet files name rose (Err Unreadable) = rose ⊎ IsMissing files name
 Answers ex sheet files name rose (Err (TooWide place count)) = IsTooWide ex place count
-Answers ex sheet files name rose (Err TooLarge) = MayBe files name (HasPricedHead ex)
+Answers ex sheet files name rose (Err TooLarge) = MayBe files name (HasLargeLists ex sheet)
 Answers ex sheet files name rose (Err Memory) = ⊤
 
 -- no menu is told to be too wide

@@ -31,7 +31,7 @@ use Rattle.fux_grid.specs.declared.cell.Cell.{Cell}
 use Rattle.fux_grid.specs.declared.exercise.Exercise.{Exercise}
 use Rattle.fux_port.specs.Files.{HasFile}
 use Rattle.penalty_sheet.specs.declared.sheet.Sheet.{Sheet}
-use Rattle.price_check.specs.Statements.{stated_tree}
+use Rattle.price_check.specs.Statements.{HasLargeStated, stated_tree}
 use Rattle.price_lists.specs.Stated.{AreDue, first_high}
 use Rattle.price_text.specs.Lists.{AreLists, lists_in, lists_text}
 use Rattle.price_text.specs.PriceLines.{Line}
@@ -99,6 +99,11 @@ abbrev pub AreTrueStated : Exercise → Sheet → Ground → Type 0
 AreTrueStated ex sheet (Numbers stated) = IfSome stated (AreTrueEntries ex sheet)
 AreTrueStated ex sheet (Lists lines) = AreDue sheet lines
 
+-- none of the lists that are stated keeps too much for a web
+abbrev pub AreSmallStated : Exercise → Sheet → Ground → Type 0
+AreSmallStated ex sheet (Numbers stated) = ⊤
+AreSmallStated ex sheet (Lists lines) = HasLargeStated ex sheet lines → ⊥
+
 -- the head is sound, and so is what is stated
 pub record IsSound (ex : Exercise) (sheet : Sheet) (opening : Opening) : Type 0 where
   pub head : IsHeadSound ex sheet opening.head
@@ -110,13 +115,6 @@ tree_by ex sheet head (Numbers stated) = tree_of ex sheet head stated
 tree_by ex sheet head (Lists lines) = stated_tree ex sheet head lines
 
 -- ---- what is refused before any claim is judged
-
--- a head of the third form stands at the front
-pub record HasPricedHead (ex : Exercise) (bytes : List ℕ) : Type 0 where
-  pub front : List ℕ
-  pub head : CertHead
-  pub begins : StartsWith bytes front
-  pub heads : Heads ex Third front head (length front)
 
 -- behind a head of the third form no lists go on at a byte of the first piece, so many bytes before
 -- its end
@@ -173,6 +171,14 @@ pub record HasHigh (ex : Exercise) (sheet : Sheet) (head : CertHead) (number : �
   pub before : ℕ
   pub numbered : number ≡ before + 1
   pub first : first_high sheet lists.lines ≡ Some before
+
+-- behind a sound head stand lists whose prices are due, and one of them keeps too much for a web
+pub record HasLargeLists (ex : Exercise) (sheet : Sheet) (bytes : List ℕ) : Type 0 where
+  pub head : CertHead
+  pub sound : IsHeadSound ex sheet head
+  pub lists : HasLists ex head bytes
+  pub due : AreDue sheet lists.lines
+  pub large : HasLargeStated ex sheet lists.lines
 
 -- behind a sound head and some entries, each of them a number or `n`, stands a line that isn't the
 -- one owed: that of an entry, or the line `claims` where there are as many as there are to be

@@ -1,14 +1,11 @@
 -- A run of `check` accepts what a run of `certify` wrote (`accepted_run`), and so it is with a
 -- cantus (`accepted_cantus_run`).
 use Rattle.std.proofs.Common.{◌≡◌, ◌≢◌, ℕ, List, [], ◌∷◌, Ok, Err, inl, inr, ap, subst, ◌∙◌}
-use Rattle.cert_text.specs.declared.answers.CertHead.{CertHead}
 use Rattle.cert_text.specs.declared.answers.Form.{Form}
-use Rattle.cert_text.specs.declared.answers.Form.TheVariants.{First, Second, Third}
 use Rattle.command_words.specs.declared.command.Wanted.{Wanted}
 use Rattle.fux_port.specs.Files.{HasFile}
 use Rattle.works.specs.declared.work.Verdict.{Verdict}
 use Rattle.works.specs.declared.work.Verdict.TheVariants.{Favorable, Unfavorable, Spent}
-use Rattle.works.specs.Accepted.{AcceptsForm}
 use Rattle.works.specs.CantusCertified.{MakesCantusCertificate}
 use Rattle.works.specs.CantusChecked.{ChecksCantusBy}
 use Rattle.works.specs.TaskFiles.{as_list}
@@ -16,7 +13,7 @@ use Rattle.works.specs.Texts.{Work}
 use Rattle.works.specs.Works.{CertifiesText, ChecksText, Files}
 use Rattle.works.proofs.AcceptedLemmas.{certified_cantus_is_accepted, certified_is_accepted}
 use Rattle.works.proofs.WorkLemmas.{only_bytes}
-use Rattle.fux_run.specs.Laws.{CertifiedCantusRunIsAccepted, CertifiedRunIsAccepted, HasStatus, IsAcceptedBy, IsFound, IsWhole}
+use Rattle.fux_run.specs.Laws.{CertifiedCantusRunIsAccepted, CertifiedRunIsAccepted, HasStatus, IsFound, IsWhole}
 use Rattle.fux_run.specs.Runs.{work_status}
 use Rattle.fux_run.specs.Statuses.{code_of, verdict_status}
 
@@ -32,24 +29,16 @@ unrefused : (code : ℕ) → code ≡ 3 → IsFound code → ⊥
 unrefused code is (inl zero_is) = cc (is, zero_is)
 unrefused code is (inr one_is) = cc (is, one_is)
 
--- work that accepts a certificate ends so
-accepted_ends : (form : Form) (head : CertHead) (next : ℕ) (checked : Work) → AcceptsForm form head checked
-    → HasStatus next checked → IsAcceptedBy form next
-accepted_ends First head next checked is ends = ends ∙ ap (λ w. code_of (work_status w)) is
-accepted_ends Second head next checked is ends = ends ∙ ap (λ w. code_of (work_status w)) is
-accepted_ends Third head next checked (inl is) ends = inl (ends ∙ ap (λ w. code_of (work_status w)) is)
-accepted_ends Third head next checked (inr large) ends = inr (ends ∙ ap (λ w. code_of (work_status w)) large)
-
 accepted_text : (budget : ℕ) (form : Form) (sheets : List (List ℕ)) (text : List ℕ) (later : Files) (certificate bytes : List ℕ)
     (code next : ℕ) (work checked : Work) → CertifiesText budget form sheets text work → IsWhole code bytes work
     → IsFound code → HasFile later certificate bytes → ChecksText later certificate sheets text checked
-    → HasStatus next checked → IsAcceptedBy form next
+    → HasStatus next checked → next ≡ 0
 accepted_text budget form sheets text later certificate bytes code next (Err refusal) checked made whole found has its ends =
     absurd (unrefused code whole.0 found)
 accepted_text budget form sheets text later certificate bytes code next (Ok output) checked made whole found has its ends =
     let accepted = certified_is_accepted budget form sheets text output later certificate checked made
     (unspent code output.verdict whole.0 found) (subst (HasFile later certificate) whole.1 has) its in
-    accepted_ends form accepted.head next checked accepted.accepted ends
+    ends ∙ ap (λ w. code_of (work_status w)) accepted.accepted
 
 pub accepted_run : CertifiedRunIsAccepted
 accepted_run name certificate sheet budget form files later [] bytes code next had have has ran found checked = absurd had

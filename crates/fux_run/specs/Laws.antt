@@ -1,11 +1,10 @@
 -- What holds of two runs: `check` accepts what `certify` wrote.
 use Rattle.std.specs.Prelude.{◌≡◌, ℕ, ◌⊎◌, List, ◌∷◌, Option}
 use Rattle.cert_text.specs.declared.answers.Form.{Form}
-use Rattle.cert_text.specs.declared.answers.Form.TheVariants.{First, Second, Third}
 use Rattle.command_words.specs.Commands.{certify, certify_cantus, check, check_cantus}
 use Rattle.command_words.specs.declared.command.Wanted.{Wanted}
 use Rattle.fux_port.specs.Files.{HasFile}
-use Rattle.fux_run.specs.declared.status.Status.TheVariants.{Favorable, Refused, Unfavorable}
+use Rattle.fux_run.specs.declared.status.Status.TheVariants.{Favorable, Unfavorable}
 use Rattle.fux_run.specs.Runs.{work_status}
 use Rattle.fux_run.specs.Statuses.{code_of}
 use Rattle.works.specs.Endings.{work_output}
@@ -25,22 +24,15 @@ HasStatus code work = code ≡ code_of (work_status work)
 abbrev pub IsFound : ℕ → Type 0
 IsFound code = (code ≡ code_of Favorable) ⊎ (code ≡ code_of Unfavorable)
 
--- a run of `check` accepts a certificate of a form: it ends with 0; by the third form it may end with 3,
--- as its graph is too large for it
-abbrev pub IsAcceptedBy : Form → ℕ → Type 0
-IsAcceptedBy First code = code ≡ code_of Favorable
-IsAcceptedBy Second code = code ≡ code_of Favorable
-IsAcceptedBy Third code = (code ≡ code_of Favorable) ⊎ (code ≡ code_of Refused)
-
 -- where a run of `certify` wrote a certificate, a run of `check` on the same exercise and sheet,
--- with these bytes in the certificate's file, accepts it, if it can write its line
+-- with these bytes in the certificate's file, accepts it, if it can write its line: it ends with 0
 abbrev pub CertifiedRunIsAccepted : Type 0
 CertifiedRunIsAccepted =
     (name certificate : List ℕ) (sheet : Option (List ℕ)) (budget : ℕ) (form : Form) (files later : Files)
     (texts : List (List ℕ)) (bytes : List ℕ) (code next : ℕ) → AllHave files (name ∷ as_list sheet) texts
     → AllHave later (name ∷ as_list sheet) texts → HasFile later certificate bytes
     → Works (certify name sheet budget form) files (IsWhole code bytes) → IsFound code
-    → Works (check name certificate sheet) later (HasStatus next) → IsAcceptedBy form next
+    → Works (check name certificate sheet) later (HasStatus next) → next ≡ code_of Favorable
 
 -- the same of `certcantus` and `checkcantus`: it ends with 0
 abbrev pub CertifiedCantusRunIsAccepted : Type 0

@@ -32,6 +32,10 @@ pub record FitBehind (ex : Exercise) (sheet : Sheet) (front : List ℕ) (lines :
   pub stated : CanBeStated ex sheet lines
   pub fits : length (front ++ lists_text lines) ≤ most_head
 
+-- the least list there is: a plain one, which keeps nothing beside what always is
+abbrev pub least_list : List Line
+least_list = Keeps false false ∷ []
+
 -- ---- lines so far
 
 -- what stands before the line behind these

@@ -5,4 +5,4 @@
 mod lists;
 mod stating;
 
-pub use lists::{lines_within, text_behind};
+pub use lists::{least_lines, lines_within, text_behind};

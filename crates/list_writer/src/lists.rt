@@ -3,7 +3,7 @@
 ghost use Rattle.std.specs.Prelude.{◌≡◌, ◌++◌, IfOk, IfSome, OnOk, map, string_bytes};
 ghost use Rattle.price_text.specs.Lists.{lists_text};
 ghost use Rattle.price_text.specs.PriceLines.{line_of};
-ghost use Rattle.list_writer.specs.Stating.{CanBeStated, FitBehind, IsStating};
+ghost use Rattle.list_writer.specs.Stating.{CanBeStated, FitBehind, IsStating, least_list};
 
 use crate::stating::Stating;
 use fux_grid::Exercise;
@@ -111,6 +111,18 @@ fn keeps_line(keeps: Keeps) -> PriceLine {
         turns: keeps.turns,
         runs: keeps.runs,
     }
+}
+
+/// The line of the least list there is: a plain one, which keeps nothing beside what always is.
+pub fn least_lines(alloc: Global) -> Result<Vec<PriceLine>, Memory>
+    ensures { IfOk result (λ lines. map line_of lines.items ≡ least_list) }
+{
+    let mut lines = Vec::new(alloc);
+    lines.push(PriceLine::Keeps {
+        turns: false,
+        runs: false,
+    })?;
+    Ok(lines)
 }
 
 /// Whether two lists charge the same.

@@ -3,3 +3,4 @@ pub mod SharpLemmas
 pub mod Pushed
 pub mod Webs
 pub mod Found
+pub mod LargeLists

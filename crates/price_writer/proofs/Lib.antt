@@ -2,3 +2,4 @@ pub mod Lent
 pub mod Sizes
 pub mod Written
 pub mod WrittenLines
+pub mod Heads

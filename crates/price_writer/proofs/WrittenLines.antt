@@ -25,7 +25,7 @@ use Rattle.fux_grid.specs.Exercises.{IsValid, columns_in}
 use Rattle.list_writer.specs.Stating.{FitBehind}
 use Rattle.penalty_sheet.specs.declared.sheet.Sheet.{Sheet}
 use Rattle.price_check.specs.Sharps.{Sharp, lists_in, own_in, tree_in}
-use Rattle.price_check.specs.Statements.{stated_tree}
+use Rattle.price_check.specs.Statements.{HasLargeStated, stated_tree}
 use Rattle.price_law.specs.Certificates.{sharp_tree}
 use Rattle.price_law.specs.PriceLists.{PriceList, sharp_floor}
 use Rattle.price_law.specs.Truths.{sharp_first_claim, sharp_unbroken}
@@ -126,14 +126,16 @@ module _ (s : Sharp) (valid : IsValid s.case.exercise) (unmixed : s.case.exercis
   -- behind lists that may stand behind a head they are a valid certificate
   pub is_certificate : (text : List ℕ)
       → FitBehind s.case.exercise s.case.sheet (head_text s.case.exercise Third s.case.head) s.lines
+      → (HasLargeStated s.case.exercise s.case.sheet s.lines → ⊥)
       → text ≡ head_text s.case.exercise Third s.case.head ++ lists_text s.lines
       → IsPricedCertificateOf s.case.exercise s.case.sheet s.case.head (with_claims text s)
-  is_certificate text fit told =
+  is_certificate text fit small told =
       let claims = claims_from (tree_in s) (own_in s) (columns_in s.case.exercise) [] in
       record {
         sound = sound s.case.exercise s.case.sheet s.case.head holds;
         lines = s.lines;
         fit = fit;
+        small = small;
         claims = claims;
         have_lines = claims-fit (tree_in s) (own_in s) own_lines (columns_in s.case.exercise) [];
         certified = written_from (tree_in s) (own_in s) (columns_in s.case.exercise) [] own_told;

@@ -1,5 +1,5 @@
 -- The certificates of the third form that are written, and how the writing of one ends.
-use Rattle.std.specs.Prelude.{◌≡◌, ℕ, ◌⊎◌, ◌<◌, ◌≤◌, List, [], ◌++◌, Option, Result, Err, length}
+use Rattle.std.specs.Prelude.{◌≡◌, ℕ, ◌⊎◌, ◌<◌, ◌≤◌, false, List, [], ◌++◌, Option, Result, Err, length}
 use Rattle.std.specs.List.{AllByRecursion}
 use Rattle.cert_law.specs.Certificates.{IsHeadSound}
 use Rattle.cert_law.specs.Writer.{head_text}
@@ -13,9 +13,10 @@ use Rattle.fux_grid.specs.declared.exercise.Exercise.{Exercise}
 use Rattle.fux_grid.specs.Exercises.{columns_in}
 use Rattle.fux_port.specs.Written.{StopsShort, appended}
 use Rattle.list_writer.specs.Stating.{FitBehind}
+use Rattle.open_ends.specs.declared.keeps.Keeps.{Keeps}
 use Rattle.penalty_sheet.specs.declared.sheet.Sheet.{Sheet}
 use Rattle.price_check.specs.Sharps.{Sharp, own_in, tree_in}
-use Rattle.price_check.specs.Statements.{stated_tree}
+use Rattle.price_check.specs.Statements.{HasLargeStated, stated_tree}
 use Rattle.priced_paths.specs.declared.states.WebFault.{WebFault}
 use Rattle.priced_paths.specs.declared.states.WebFault.TheVariants as webs
 use Rattle.price_text.specs.Lists.{lists_text}
@@ -24,15 +25,25 @@ use Rattle.price_writer.specs.declared.answers.PricesWrite.{PricesWrite}
 use Rattle.price_writer.specs.declared.answers.PricesWrite.TheVariants.{Memory, TooLarge, TooLong}
 
 -- the bytes are the text of a valid certificate with this head: the head's text, lists that may stand
--- behind it and whose prices are due, and claims by what they state
+-- behind it, whose prices are due and none of which keeps too much for a web, and claims by what they
+-- state
 pub record IsPricedCertificateOf (ex : Exercise) (sheet : Sheet) (head : CertHead) (bytes : List ℕ) : Type 0 where
   pub sound : IsHeadSound ex sheet head
   pub lines : List Line
   pub fit : FitBehind ex sheet (head_text ex Third head) lines
+  pub small : HasLargeStated ex sheet lines → ⊥
   pub claims : List Claim
   pub have_lines : AllByRecursion IsClaim claims
   pub certified : IsCertifiedFrom (stated_tree ex sheet head lines) [] claims
   pub written : bytes ≡ (head_text ex Third head ++ lists_text lines) ++ claim_lines claims
+
+-- the least that a list keeps: nothing beside what always is
+abbrev pub least_kept : Keeps
+least_kept = record { turns = false; runs = false }
+
+-- the most bytes that the text of a head has
+abbrev pub longest_head : ℕ
+longest_head = 4876
 
 -- ---- how the writing of one ends
 

@@ -14,7 +14,7 @@ pub enum PricesWrite {
     WriteFault,
     /// It would have more than 1,073,741,824 bytes.
     TooLong,
-    /// What its lists would keep of prefixes is too much for a web.
+    /// Even what a list keeps that keeps nothing beside what always is is too much for a web.
     TooLarge,
     /// There was not enough memory.
     Memory,

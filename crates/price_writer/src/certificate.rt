@@ -6,6 +6,7 @@ ghost use Rattle.cert_law.specs.Writer.{head_text};
 ghost use Rattle.cert_text.specs.declared.answers.Form.TheVariants.{Third};
 ghost use Rattle.fux_port.specs.Promises.{Fails};
 ghost use Rattle.list_writer.specs.Stating.{FitBehind};
+ghost use Rattle.price_check.specs.Statements.{HasLargeStated};
 ghost use Rattle.price_text.specs.Lists.{lists_text};
 ghost use Rattle.price_writer.specs.Certificates.{EndsUnwritten, IsCut, IsOverlong, IsWhole, OfPriced};
 
@@ -28,6 +29,7 @@ pub(crate) fn write_priced<K: Sink>(
     requires holds { Holds it.now.case.exercise it.now.case.sheet it.now.case.head }
     requires fit { FitBehind it.now.case.exercise it.now.case.sheet
         (head_text it.now.case.exercise Third it.now.case.head) it.now.lines }
+    requires small { HasLargeStated it.now.case.exercise it.now.case.sheet it.now.lines → ⊥ }
     requires text { text.now ≡ head_text it.now.case.exercise Third it.now.case.head
         ++ lists_text it.now.lines }
     ensures ok { OnOk result (OfPriced it.now.case.exercise it.now.case.sheet it.now.case.head
@@ -38,6 +40,7 @@ pub(crate) fn write_priced<K: Sink>(
         (K.written sink.new)) }
     ensures too_long { result ≡ Err PricesWrite.TooLong
         → OfPriced it.now.case.exercise it.now.case.sheet it.now.case.head IsOverlong }
+    ensures woven { result ≡ Err PricesWrite.TooLarge → ⊥ }
     ensures unwritten { EndsUnwritten result → K.written sink.new ≡ K.written sink.old }
     ensures faults { K.faults sink.old ≤ K.faults sink.new }
 {

@@ -1,13 +1,13 @@
 -- `check` accepts what `certify` writes (`certified_is_accepted`), and `checkcantus` what
 -- `certcantus` writes (`certified_cantus_is_accepted`).
-use Rattle.std.proofs.Common.{◌≡◌, ◌≢◌, ℕ, ◌⊎◌, List, ◌++◌, None, Some, Result, Ok, Err, inl, inr, refl, ap, subst, sym, ◌∙◌, drop, length, append_assoc}
-use Rattle.std.proofs.lemmas.List.{take-append-drop}
+use Rattle.std.proofs.Common.{◌≡◌, ◌≢◌, ℕ, ◌⊎◌, List, None, Some, Result, Ok, Err, inl, inr, refl, ap, subst, ◌∙◌, length, take}
+use Rattle.std.proofs.Math.Seq.{take-append_seam}
 use Rattle.std.specs.List.{flat_map}
 use Rattle.cantus_check.specs.Topics as cantus
 use Rattle.cantus_law.specs.Claims.{Said}
 use Rattle.cantus_space.specs.declared.plan.CantusPlan.{CantusPlan}
-use Rattle.cert_check.proofs.StartLemmas.{at_front}
-use Rattle.cert_check.specs.Settings.{HasPricedHead, accepted_of, form_of, ground_text}
+use Rattle.cert_check.proofs.LargeTexts.{small_stays}
+use Rattle.cert_check.specs.Settings.{HasLargeLists}
 use Rattle.cert_file.proofs.TextLemmas.{such_of}
 use Rattle.cert_file.specs.Readings.{MayBe}
 use Rattle.cert_file.specs.Subjects as subjects
@@ -15,10 +15,7 @@ use Rattle.cert_file.specs.declared.verdict.Verdict.TheVariants.{Accepted}
 use Rattle.class_marker.specs.Markings.{IsTheText}
 use Rattle.cert_text.specs.declared.answers.CertHead.{CertHead}
 use Rattle.cert_text.specs.declared.answers.CertHead.TheVariants.{Best, Nothing}
-use Rattle.cert_text.proofs.HeadBacks.{heads_are_one}
 use Rattle.cert_text.specs.declared.answers.Form.{Form}
-use Rattle.cert_text.specs.declared.answers.Form.TheVariants.{First, Second, Third}
-use Rattle.cert_text.specs.HeadRows.{IsUpTo}
 use Rattle.cert_text.specs.Lines.{claim_line}
 use Rattle.fux_grid.specs.declared.exercise.Exercise.{Exercise}
 use Rattle.fux_grid.specs.Exercises.{IsValid}
@@ -30,7 +27,7 @@ use Rattle.works.specs.declared.refusal.Refusal.TheVariants as refusal
 use Rattle.works.specs.declared.work.Output.{Output}
 use Rattle.works.specs.declared.work.Verdict.{Verdict}
 use Rattle.works.specs.declared.work.Verdict.TheVariants.{Favorable, Unfavorable, Spent}
-use Rattle.works.specs.Accepted.{Accepts, AcceptsForm, CertifiedCantusIsAccepted, CertifiedIsAccepted, IsAcceptedFor}
+use Rattle.works.specs.Accepted.{Accepts, CertifiedCantusIsAccepted, CertifiedIsAccepted, IsAcceptedFor}
 use Rattle.works.specs.CantusCertified as certified
 use Rattle.works.specs.CantusCertified.{ShowsCantus}
 use Rattle.works.specs.CantusChecked.{ChecksPlan}
@@ -81,62 +78,39 @@ text_valid : (bytes : List ℕ) (ex : Exercise) → IsTextOf bytes ex → IsVali
 unfolding IsTextOf
 text_valid bytes ex is = is.valid
 
-module _ (ex : Exercise) (sheet : Sheet) (form : Form) (head : CertHead) (bytes : List ℕ) (valid : IsValid ex) where
-  -- a certificate by numbers has no head of the third form
-  unpriced : IsUpTo Second form → IsTextOfForm ex sheet form head bytes → HasPricedHead ex bytes → ⊥
-  unpriced numbers is priced =
-      let text = is.text.is.text in
-      let own = text.heads in
-      let behind = ground_text is.text.stated in
-      let claims = flat_map claim_line is.text.is.claims in
-      let later = drop (length priced.front) bytes in
-      let one = heads_are_one ex bytes (form_of is.text.stated) Third head priced.head (length own.front)
-      (length priced.front) valid
-      (at_front ex (form_of is.text.stated) head bytes own.front (behind ++ claims)
-      (text.is ∙ ap (λ xs. xs ++ claims) own.is ∙ append_assoc own.front behind claims) own.heads)
-      (at_front ex Third priced.head bytes priced.front later
-      (sym (take-append-drop (length priced.front) bytes) ∙ ap (λ xs. xs ++ later) priced.begins) priced.heads) in
-      subst (IsUpTo Second) (sym is.stating ∙ one.0) numbers
-
-accepts_form : (form : Form) (head : CertHead) (checked : Work) → Accepts head checked → AcceptsForm form head checked
-accepts_form First head checked is = is
-accepts_form Second head checked is = is
-accepts_form Third head checked is = inl is
-
 -- a refusal of a certificate is one of its exercise, or of a graph
-width_or_graph : (files : Files) (name : List ℕ) (ex : Exercise) (said : Refusal) → RefusesChecking files name ex said
-    → RefusesWidth ex said ⊎ ((said ≡ refusal.LargeGraph) × MayBe files name (HasPricedHead ex))
-width_or_graph files name ex refusal.LargeGraph h = inr (refl, h.1)
-width_or_graph files name ex (refusal.TooWide place count) h = inl h
-width_or_graph files name ex (refusal.Text kind line column) h = inl h
-width_or_graph files name ex refusal.NoSetting h = inl h
-width_or_graph files name ex (refusal.Lesson kind line column) h = inl h
-width_or_graph files name ex (refusal.With voice) h = inl h
-width_or_graph files name ex (refusal.List line) h = inl h
-width_or_graph files name ex (refusal.Canon line) h = inl h
-width_or_graph files name ex refusal.LongCertificate h = inl h
-width_or_graph files name ex (refusal.Sheet fault) h = inl h
-width_or_graph files name ex (refusal.Midi fault) h = inl h
-width_or_graph files name ex (refusal.Join fault) h = inl h
+width_or_graph : (files : Files) (name : List ℕ) (sheet : Sheet) (ex : Exercise) (said : Refusal)
+    → RefusesChecking files name sheet ex said → RefusesWidth ex said ⊎ MayBe files name (HasLargeLists ex sheet)
+width_or_graph files name sheet ex refusal.LargeGraph h = inr h.1
+width_or_graph files name sheet ex (refusal.TooWide place count) h = inl h
+width_or_graph files name sheet ex (refusal.Text kind line column) h = inl h
+width_or_graph files name sheet ex refusal.NoSetting h = inl h
+width_or_graph files name sheet ex (refusal.Lesson kind line column) h = inl h
+width_or_graph files name sheet ex (refusal.With voice) h = inl h
+width_or_graph files name sheet ex (refusal.List line) h = inl h
+width_or_graph files name sheet ex (refusal.Canon line) h = inl h
+width_or_graph files name sheet ex refusal.LongCertificate h = inl h
+width_or_graph files name sheet ex (refusal.Sheet fault) h = inl h
+width_or_graph files name sheet ex (refusal.Midi fault) h = inl h
+width_or_graph files name sheet ex (refusal.Join fault) h = inl h
 
 module _ (ex : Exercise) (sheet : Sheet) (files : Files) (name bytes : List ℕ) (head : CertHead) (valid : IsValid ex)
     (has : HasFile files name bytes) where
-  -- where the graph is too large, the form is the third
-  graph : (form : Form) (said : Refusal) → IsTextOfForm ex sheet form head bytes → said ≡ refusal.LargeGraph
-      → MayBe files name (HasPricedHead ex) → AcceptsForm form head (Err said)
-  graph First said is same priced =
-      absurd (unpriced ex sheet First head bytes valid tt is (such_of files name bytes has (HasPricedHead ex) priced))
-  graph Second said is same priced =
-      absurd (unpriced ex sheet Second head bytes valid tt is (such_of files name bytes has (HasPricedHead ex) priced))
-  graph Third said is same priced = inr (ap Err same)
+  -- no graph is too large of a certificate whose lists are small
+  no_graph : (form : Form) → IsTextOfForm ex sheet form head bytes → MayBe files name (HasLargeLists ex sheet) → ⊥
+  no_graph form is large =
+      let text = is.text.is.text in
+      small_stays ex valid bytes sheet is.text.stated head text.front text.heads
+      (ap (take (length text.front)) text.is ∙ take-append_seam text.front (flat_map claim_line is.text.is.claims)) is.small
+      (such_of files name bytes has (HasLargeLists ex sheet) large)
 
   accepts : (form : Form) (checked : Work) → IsNarrow ex → IsTextOfForm ex sheet form head bytes
-      → Checks files name sheet ex checked → AcceptsForm form head checked
-  accepts form (Ok output) narrow is its = accepts_form form head (Ok output) (ap Ok (its.exact.each bytes head has is.text))
+      → Checks files name sheet ex checked → Accepts head checked
+  accepts form (Ok output) narrow is its = ap Ok (its.exact.each bytes head has is.text)
   accepts form (Err said) narrow is its =
-      elim (width_or_graph files name ex said its) [
+      elim (width_or_graph files name sheet ex said its) [
         | inl width ↦ let wide = width_of ex said width in absurd (not_wide ex wide.0 wide.1 narrow wide.3)
-        | inr large ↦ graph form said is large.0 large.1
+        | inr large ↦ absurd (no_graph form is large)
       ]
 
 module _ (budget : ℕ) (form : Form) (sheets : List (List ℕ)) (text : List ℕ) (written : Output) (files : Files)

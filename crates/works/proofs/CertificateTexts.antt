@@ -114,6 +114,7 @@ module _ (ex : Exercise) (sheet : Sheet) (valid : IsValid ex) (unmixed : ex.mixe
       };
     };
     stating = stating;
+    small = tt;
   }
 
   -- and so is what is written by prices
@@ -144,6 +145,7 @@ module _ (ex : Exercise) (sheet : Sheet) (valid : IsValid ex) (unmixed : ex.mixe
       };
     };
     stating = refl;
+    small = is.small;
   }
 
   head_acceptable : (form : Form) (head : CertHead) (bytes : List ℕ) → IsReadBack form head

@@ -213,7 +213,12 @@ module _ (budget : ℕ) (form : Form) (sheet : Sheet) (ex : Exercise) (valid : I
   of_best score penalty best below (Err (refusal.TooWide place count)) made = absurd made
   of_best score penalty best below (Err (refusal.Text kind line column)) made = absurd made
   of_best score penalty best below (Err refusal.NoSetting) made = absurd made
-  of_best score penalty best below (Err refusal.LargeGraph) made = (narrow, made)
+  of_best score penalty best below (Err refusal.LargeGraph) made = record {
+    narrow = narrow;
+    third = made.0;
+    found = inl (record { score = score; penalty = penalty; best = best });
+    large = made.1;
+  }
   of_best score penalty best below (Err (refusal.Lesson kind line column)) made = absurd made
   of_best score penalty best below (Err (refusal.List line)) made = absurd made
   of_best score penalty best below (Err (refusal.Canon line)) made = absurd made
@@ -248,7 +253,8 @@ module _ (budget : ℕ) (form : Form) (sheet : Sheet) (ex : Exercise) (valid : I
   of_none none (Err (refusal.TooWide place count)) made = absurd made
   of_none none (Err (refusal.Text kind line column)) made = absurd made
   of_none none (Err refusal.NoSetting) made = absurd made
-  of_none none (Err refusal.LargeGraph) made = (narrow, made)
+  of_none none (Err refusal.LargeGraph) made =
+      record { narrow = narrow; third = made.0; found = inr none; large = made.1 }
   of_none none (Err (refusal.Lesson kind line column)) made = absurd made
   of_none none (Err (refusal.List line)) made = absurd made
   of_none none (Err (refusal.Canon line)) made = absurd made

@@ -3,7 +3,7 @@
 use Rattle.std.proofs.Common.{◌≡◌, ◌⊎◌, ℕ, zero, suc, ◌<◌, List, [], ◌∷◌, Contains, Option, Result, Ok, Err, get_or, inl, inr, refl, ap, sym, subst, ◌∙◌, arith}
 use Rattle.cert_file.specs.Readings.{MayBe}
 use Rattle.cert_text.specs.declared.answers.CertHead.{CertHead}
-use Rattle.cert_check.specs.Settings.{HasPricedHead, IsVerdictOn}
+use Rattle.cert_check.specs.Settings.{HasLargeLists, IsVerdictOn}
 use Rattle.cert_check.proofs.RefusedLemmas.{one_verdict}
 use Rattle.cert_file.proofs.TextLemmas.{such_of}
 use Rattle.cert_check.specs.Settings as cert
@@ -181,22 +181,22 @@ part_is_there task files name bytes cut old new have on one missing =
 -- ---- files that are refused keep a command from reading on
 
 -- a refused certificate is there, or a menu is too wide
-not_refused_check : (files : Files) (certificate : List ℕ) (ex : Exercise) (refusal : Refusal)
-    → RefusesChecking files certificate ex refusal → IsNarrow ex → IsMissing files certificate → ⊥
-not_refused_check files certificate ex refusal.LargeGraph large narrow missing =
-    may_be_there files certificate (HasPricedHead ex) large.1 missing
-not_refused_check files certificate ex (refusal.TooWide place count) wide narrow missing =
+not_refused_check : (files : Files) (certificate : List ℕ) (sheet : Sheet) (ex : Exercise) (refusal : Refusal)
+    → RefusesChecking files certificate sheet ex refusal → IsNarrow ex → IsMissing files certificate → ⊥
+not_refused_check files certificate sheet ex refusal.LargeGraph large narrow missing =
+    may_be_there files certificate (HasLargeLists ex sheet) large.1 missing
+not_refused_check files certificate sheet ex (refusal.TooWide place count) wide narrow missing =
     omega (arith, narrow wide.column wide.within, wide.width, wide.wide)
-not_refused_check files certificate ex (refusal.Text kind line column) wide narrow missing = wide
-not_refused_check files certificate ex refusal.NoSetting wide narrow missing = wide
-not_refused_check files certificate ex (refusal.Lesson kind line column) wide narrow missing = wide
-not_refused_check files certificate ex (refusal.List line) wide narrow missing = wide
-not_refused_check files certificate ex (refusal.Canon line) wide narrow missing = wide
-not_refused_check files certificate ex (refusal.With voice) wide narrow missing = wide
-not_refused_check files certificate ex refusal.LongCertificate wide narrow missing = wide
-not_refused_check files certificate ex (refusal.Sheet fault) wide narrow missing = wide
-not_refused_check files certificate ex (refusal.Midi fault) wide narrow missing = wide
-not_refused_check files certificate ex (refusal.Join fault) wide narrow missing = wide
+not_refused_check files certificate sheet ex (refusal.Text kind line column) wide narrow missing = wide
+not_refused_check files certificate sheet ex refusal.NoSetting wide narrow missing = wide
+not_refused_check files certificate sheet ex (refusal.Lesson kind line column) wide narrow missing = wide
+not_refused_check files certificate sheet ex (refusal.List line) wide narrow missing = wide
+not_refused_check files certificate sheet ex (refusal.Canon line) wide narrow missing = wide
+not_refused_check files certificate sheet ex (refusal.With voice) wide narrow missing = wide
+not_refused_check files certificate sheet ex refusal.LongCertificate wide narrow missing = wide
+not_refused_check files certificate sheet ex (refusal.Sheet fault) wide narrow missing = wide
+not_refused_check files certificate sheet ex (refusal.Midi fault) wide narrow missing = wide
+not_refused_check files certificate sheet ex (refusal.Join fault) wide narrow missing = wide
 
 not_refused_text : (bytes : List ℕ) (ex : Exercise) (refusal : Refusal) → IsTextOf bytes ex → RefusesText bytes refusal → ⊥
 not_refused_text bytes ex (refusal.Text kind line column) is refused = texts-faultless bytes ex kind line column is refused
@@ -248,7 +248,7 @@ check_not_refused files certificate sheets text refusal (inl on) ready missing =
     elim on.made [
       | inl over ↦
           let same = ready.is.only on.exercise on.text.text in
-          not_refused_check files certificate on.exercise refusal over.made (rw same at ready.narrow) missing
+          not_refused_check files certificate over.sheet on.exercise refusal over.made (rw same at ready.narrow) missing
       | inr none ↦ not_refused_sheet sheets ready.sheet none.refusal ready.said none.cause
     ]
 check_not_refused files certificate sheets text refusal (inr none) ready missing =

@@ -1,18 +1,16 @@
 -- What `certify` and `certcantus` write, `check` and `checkcantus` accept.
-use Rattle.std.specs.Prelude.{◌≡◌, ◌≢◌, ℕ, ◌⊎◌, List, Ok, Err}
+use Rattle.std.specs.Prelude.{◌≡◌, ◌≢◌, ℕ, List, Ok}
 use Rattle.cantus_check.specs.Topics as cantus
 use Rattle.cantus_law.specs.Claims.{Said}
 use Rattle.cert_check.specs.Settings.{accepted_of}
 use Rattle.cert_file.specs.declared.verdict.Verdict.TheVariants.{Accepted}
 use Rattle.cert_text.specs.declared.answers.CertHead.{CertHead}
 use Rattle.cert_text.specs.declared.answers.Form.{Form}
-use Rattle.cert_text.specs.declared.answers.Form.TheVariants.{First, Second, Third}
 use Rattle.class_marker.specs.Markings.{IsTheText}
 use Rattle.command_words.specs.declared.command.Wanted.{Wanted}
 use Rattle.fux_grid.specs.declared.exercise.Exercise.{Exercise}
 use Rattle.fux_port.specs.Files.{HasFile}
 use Rattle.penalty_sheet.specs.declared.sheet.Sheet.{Sheet}
-use Rattle.works.specs.declared.refusal.Refusal.TheVariants.{LargeGraph}
 use Rattle.works.specs.declared.work.Output.{Output}
 use Rattle.works.specs.declared.work.Verdict.TheVariants.{Spent}
 use Rattle.works.specs.CantusCertified as of_cantus
@@ -29,12 +27,6 @@ use Rattle.works.specs.Works.{CertifiesText, ChecksText, Files}
 abbrev pub Accepts : CertHead → Work → Type 0
 Accepts head checked = checked ≡ Ok (told (Accepted (accepted_of head)))
 
--- it accepts one of a form; one of the third form, where its graph isn't too large for it
-abbrev pub AcceptsForm : Form → CertHead → Work → Type 0
-AcceptsForm First head checked = Accepts head checked
-AcceptsForm Second head checked = Accepts head checked
-AcceptsForm Third head checked = Accepts head checked ⊎ (checked ≡ Err LargeGraph)
-
 -- the output is the certificate of a head, of the exercise that a text has and over the sheet in
 -- use, and other work accepts it
 pub record IsAcceptedFor (form : Form) (sheets : List (List ℕ)) (text : List ℕ) (written : Output) (checked : Work)
@@ -45,7 +37,7 @@ pub record IsAcceptedFor (form : Form) (sheets : List (List ℕ)) (text : List �
   pub said : sheet_said sheets ≡ Ok sheet
   pub head : CertHead
   pub certificate : IsCertificateOf exercise sheet form head written.bytes
-  pub accepted : AcceptsForm form head checked
+  pub accepted : Accepts head checked
 
 -- a certificate that `certify` writes of a text, `check` of the same text, with that certificate in
 -- a file, accepts

@@ -1,8 +1,8 @@
 -- What `certify` makes of an exercise, over a sheet of weights.
-use Rattle.std.specs.Prelude.{◌≡◌, ◌≢◌, ℕ, ◌<◌, ◌≤◌, List, Option, Ok, Err, IfSome, length}
+use Rattle.std.specs.Prelude.{◌≡◌, ◌≢◌, ◌⊎◌, ℕ, ◌<◌, ◌≤◌, List, Option, Ok, Err, IfSome, length}
 use Rattle.std.specs.Borrow.{Bor}
 use Rattle.std.specs.List.{AllByRecursion}
-use Rattle.cert_check.specs.Settings.{IsCertificateText, form_of}
+use Rattle.cert_check.specs.Settings.{AreSmallStated, IsCertificateText, form_of}
 use Rattle.cert_file.specs.Readings.{longest_certificate}
 use Rattle.cert_law.specs.Certificates.{IsCertificate}
 use Rattle.cert_law.specs.Rests.{stated_in}
@@ -17,7 +17,8 @@ use Rattle.cert_text.specs.Potentials.{IsPotential}
 use Rattle.fux_grid.specs.declared.exercise.Exercise.{Exercise}
 use Rattle.fux_grid.specs.Grid.{Grid}
 use Rattle.penalty_sheet.specs.declared.sheet.Sheet.{Sheet}
-use Rattle.price_writer.specs.Certificates.{IsPricedCertificateOf}
+use Rattle.price_check.specs.Woven.{IsLargeWeb}
+use Rattle.price_writer.specs.Certificates.{IsPricedCertificateOf, least_kept}
 use Rattle.works.specs.declared.refusal.Refusal.{Refusal}
 use Rattle.works.specs.declared.refusal.Refusal.TheVariants.{LargeGraph, LongCertificate}
 use Rattle.works.specs.declared.work.Output.{Output}
@@ -42,10 +43,12 @@ IsCertificateOf ex sheet First head bytes = IsCertificateByNumbers ex sheet Firs
 IsCertificateOf ex sheet Second head bytes = IsCertificateByNumbers ex sheet Second head bytes
 IsCertificateOf ex sheet Third head bytes = IsPricedCertificateOf ex sheet head bytes
 
--- the bytes are the text of a valid certificate of a form with this head, which `check` accepts
+-- the bytes are the text of a valid certificate of a form with this head, none of whose lists keeps
+-- too much for a graph: `check` accepts it
 pub record IsTextOfForm (ex : Exercise) (sheet : Sheet) (form : Form) (head : CertHead) (bytes : List ℕ) : Type 0 where
   pub text : IsCertificateText ex sheet head bytes
   pub stating : form_of text.stated ≡ form
+  pub small : AreSmallStated ex sheet text.stated
 
 -- they are, where they are no longer than a certificate may be
 abbrev pub IsAcceptable : Exercise → Sheet → Form → CertHead → List ℕ → Type 0
@@ -86,10 +89,24 @@ pub record IsOverlong (budget : ℕ) (form : Form) (sheet : Sheet) (ex : Exercis
   pub shows : Shows ex sheet budget form verdict bytes
   pub long : 1073741824 < length bytes
 
--- a refusal of an exercise, before the work or after it; a graph that is too large is one by prices
+-- the search for a form found the best setting
+pub record FindsBest (budget : ℕ) (form : Form) (sheet : Sheet) (ex : Exercise) : Type 0 where
+  pub score : Grid
+  pub penalty : ℕ
+  pub best : IsBestFound ex (IsBestFor form ex sheet budget) score penalty
+
+-- the search for the third form found the best setting, or that there is none, but even the least
+-- that a list keeps is too much for a graph
+pub record HasLargeGraph (budget : ℕ) (form : Form) (sheet : Sheet) (ex : Exercise) : Type 0 where
+  pub narrow : IsNarrow ex
+  pub third : form ≡ Third
+  pub found : FindsBest budget form sheet ex ⊎ IsNothingFor form ex sheet budget
+  pub large : IsLargeWeb ex sheet least_kept
+
+-- a refusal of an exercise, before the work or after it
 abbrev pub RefusesCertifying : ℕ → Form → Sheet → Exercise → Refusal → Type 0
 RefusesCertifying budget form sheet ex LongCertificate = IsOverlong budget form sheet ex
-RefusesCertifying budget form sheet ex LargeGraph = IsNarrow ex × (form ≡ Third)
+RefusesCertifying budget form sheet ex LargeGraph = HasLargeGraph budget form sheet ex
 RefusesCertifying budget form sheet ex refusal = RefusesWidth ex refusal
 
 -- `certify` with this budget and this form makes this of an exercise, over the sheet in use
@@ -97,14 +114,14 @@ abbrev pub Certifies : ℕ → Form → Sheet → Exercise → Work → Type 0
 Certifies budget form sheet ex (Ok output) = IsCertification budget form sheet ex output
 Certifies budget form sheet ex (Err refusal) = RefusesCertifying budget form sheet ex refusal
 
--- a certificate of a head in a form is the output, with this verdict, or it is too long, or its
--- graph is too large
+-- a certificate of a head in a form is the output, with this verdict, or it is too long, or even the
+-- least that a list of one keeps is too much for a graph
 abbrev pub CertifiesHead : Exercise → Sheet → Form → CertHead → Verdict → Work → Type 0
 CertifiesHead ex sheet form head verdict (Ok output) =
     (output.verdict ≡ verdict) × IsCertificateOf ex sheet form head output.bytes × (length output.bytes ≤ 1073741824)
 CertifiesHead ex sheet form head verdict (Err LongCertificate) =
     (bytes : List ℕ) × IsCertificateOf ex sheet form head bytes × (1073741824 < length bytes)
-CertifiesHead ex sheet form head verdict (Err LargeGraph) = form ≡ Third
+CertifiesHead ex sheet form head verdict (Err LargeGraph) = (form ≡ Third) × IsLargeWeb ex sheet least_kept
 CertifiesHead ex sheet form head verdict (Err refusal) = ⊥
 
 -- the same of what a search of a space found

@@ -3,7 +3,7 @@ use Rattle.std.specs.Prelude.{◌≡◌, ℕ, ◌⊎◌, List, Result, Ok, Err}
 use Rattle.cert_law.specs.Certificates.{Holds}
 use Rattle.cert_file.specs.Readings.{Files, MayBe}
 use Rattle.cert_text.specs.declared.answers.CertHead.{CertHead}
-use Rattle.cert_check.specs.Settings.{HasPricedHead, IsCertificateText, IsVerdictOn, accepted_of}
+use Rattle.cert_check.specs.Settings.{HasLargeLists, IsCertificateText, IsVerdictOn, accepted_of}
 use Rattle.cert_file.specs.declared.verdict.Verdict.{Verdict as CertVerdict}
 use Rattle.cert_file.specs.declared.verdict.Verdict.TheVariants.{Accepted, Claim, Text}
 use Rattle.cert_file.specs.Verdicts.{verdict_line}
@@ -72,17 +72,17 @@ pub record IsChecked (files : Files) (certificate : List ℕ) (sheet : Sheet) (e
     pub told : output ≡ told said
     pub exact : AcceptsValid ex sheet files certificate output
 
--- a refusal of an exercise one of whose menus is too wide, or of a certificate of the third form, of
--- whose lists one has too large a graph
-abbrev pub RefusesChecking : Files → List ℕ → Exercise → Refusal → Type 0
-RefusesChecking files certificate ex LargeGraph = IsNarrow ex × MayBe files certificate (HasPricedHead ex)
-RefusesChecking files certificate ex refusal = RefusesWidth ex refusal
+-- a refusal of an exercise one of whose menus is too wide, or of a certificate of the third form, whose
+-- head is sound and whose prices are due, but one of whose lists keeps too much for a graph
+abbrev pub RefusesChecking : Files → List ℕ → Sheet → Exercise → Refusal → Type 0
+RefusesChecking files certificate sheet ex LargeGraph = IsNarrow ex × MayBe files certificate (HasLargeLists ex sheet)
+RefusesChecking files certificate sheet ex refusal = RefusesWidth ex refusal
 
 -- `check` makes this of an exercise and the certificate in the file of this name, over the sheet in
 -- use
 abbrev pub Checks : Files → List ℕ → Sheet → Exercise → Work → Type 0
 Checks files certificate sheet ex (Ok output) = IsChecked files certificate sheet ex output
-Checks files certificate sheet ex (Err refusal) = RefusesChecking files certificate ex refusal
+Checks files certificate sheet ex (Err refusal) = RefusesChecking files certificate sheet ex refusal
 
 -- an answer is of such work, or a file that is read within it cannot be read, where this holds, or
 -- memory is wanting

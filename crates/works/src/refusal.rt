@@ -51,7 +51,8 @@ pub enum Refusal {
     },
     /// The certificate has more than 1,073,741,824 bytes.
     LongCertificate,
-    /// A list of a certificate has more than 4,194,304 nodes or 6,000,000 edges to be worked.
+    /// The graph of a list of a certificate has more than 4,194,304 nodes or 6,000,000 edges, or
+    /// 48,000,000 labels are to be tried for it.
     LargeGraph,
     /// The file is no sheet of weights: its first fault.
     Sheet {

@@ -16,6 +16,7 @@ use Rattle.fux_grid.specs.declared.cell.Cell.{Cell}
 use Rattle.fux_grid.specs.declared.exercise.Exercise.{Exercise}
 use Rattle.fux_port.specs.Counts.{Rose}
 use Rattle.penalty_sheet.specs.declared.sheet.Sheet.{Sheet}
+use Rattle.price_check.proofs.LargeLists.{told_large}
 use Rattle.price_check.specs.declared.floors.ListFloor.{ListFloor}
 use Rattle.price_check.specs.Floors.{AreFor, list_of}
 use Rattle.price_check.specs.Sharps.{Sharp}
@@ -59,7 +60,13 @@ returns-in_err-webs-clause-answers g c =
     let told = err_from_is_err_and c.from_residual-in_err-webs.result c.from_residual-in_err-webs.ensures.1 in
     subst (λ (r : Result Verdict CheckFault). Answers ex sheet files name rose r) (sym (told.1 ∙ ap Err told.2))
     (unwoven_answer ex sheet files name rose c.args.head.now (map line_of c.args.lines.now) c.args.reader
-    c.requires.opened _)
+    c.requires.opened c.in_err-webs.field-0.0 c.requires.front (λ fault.
+    told_large c.args.space.now (map line_of c.args.lines.now) c.in_ok-own.own.items c.in_ok-lists.lists.items
+    c.deref-2.result.now c.deref-2.ensures.value
+    (subst (λ (s : Sheet). AreStated s (map line_of c.args.lines.now) (map list_owned c.in_ok-own.own.items))
+    c.sheet-sheet.ensures c.in_ok-own.ensures)
+    (c.in_ok-lists.ensures.lists ∙ ap (map list_owned) c.deref.ensures.value) c.in_ok-lists.ensures.space
+    (c.webs_of.ensures.large (c.in_err-webs.was ∙ ap Err fault))))
 
 pub list_numbers-requires : goal.list_numbers-requires
 list_numbers-requires g c = (

@@ -15,7 +15,7 @@ pub returns-in-Ok-clause-ok : goal.returns-in-Ok-clause-ok
 returns-in-Ok-clause-ok g c =
     let s = c.args.it.now in
     let certificate = is_certificate s c.kept.ensures.case.valid c.requires.unmixed c.requires.holds
-    c.kept.ensures.stated c.args.text.now c.requires.fit c.requires.text in
+    c.kept.ensures.stated c.args.text.now c.requires.fit c.requires.small c.requires.text in
     record {
       bytes = _;
       certificate = certificate;
@@ -32,7 +32,7 @@ returns-in-Err-WriteFault-clause-cut g c = λ _.
     let fault = c.in-Err-WriteFault.is ∙ ap Err c.in-Err-WriteFault.field-0-is in
     let s = c.args.it.now in
     let certificate = is_certificate s c.kept.ensures.case.valid c.requires.unmixed c.requires.holds
-    c.kept.ensures.stated c.args.text.now c.requires.fit c.requires.text in
+    c.kept.ensures.stated c.args.text.now c.requires.fit c.requires.small c.requires.text in
     record {
       bytes = _;
       certificate = certificate;
@@ -49,5 +49,5 @@ returns-in-Err-TooLong-clause-too_long g c = λ _.
     let fault = c.in-Err-TooLong.is ∙ ap Err c.in-Err-TooLong.field-0-is in
     let s = c.args.it.now in
     let certificate = is_certificate s c.kept.ensures.case.valid c.requires.unmixed c.requires.holds
-    c.kept.ensures.stated c.args.text.now c.requires.fit c.requires.text in
+    c.kept.ensures.stated c.args.text.now c.requires.fit c.requires.small c.requires.text in
     record { bytes = _; certificate = certificate; ends = c.write_with_claims.ensures.too_long fault }

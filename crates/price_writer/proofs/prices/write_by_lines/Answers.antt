@@ -1,10 +1,12 @@
-use Rattle.std.proofs.Common.{◌≡◌, ◌++◌, ℕ, List, length, map, ap, sym, ◌∙◌, subst, arith}
+use Rattle.std.proofs.Common.{◌≡◌, ◌++◌, ℕ, List, Err, length, map, ap, sym, ◌∙◌, subst, arith}
 use Rattle.std.specs.List.{AllByRecursion}
 use Rattle.std.proofs.lemmas.List.{length-map}
+use Rattle.std.proofs.lemmas.Result.{err_from_is_err_and}
 use Rattle.cert_law.proofs.PrefixTruths.{sound}
 use Rattle.fux_grid.specs.declared.exercise.Exercise.{Exercise}
 use Rattle.list_writer.specs.Stating.{FitBehind}
 use Rattle.penalty_sheet.specs.declared.sheet.Sheet.{Sheet}
+use Rattle.price_check.proofs.LargeLists.{none_large, told_large}
 use Rattle.price_check.specs.declared.floors.ListFloor.{ListFloor}
 use Rattle.price_check.specs.declared.priced_list.PricedList.{PricedList}
 use Rattle.price_check.specs.Floors.{AreFor, list_of}
@@ -13,7 +15,7 @@ use Rattle.price_lists.specs.declared.stated.OwnList.{OwnList}
 use Rattle.price_lists.specs.Owned.{IsFit, list_owned}
 use Rattle.price_text.specs.Lists.{lists_text}
 use Rattle.price_text.specs.PriceLines.{line_of}
-use Rattle.price_writer.proofs.Lent.{floors_stated, same_numbers, same_webs}
+use Rattle.price_writer.proofs.Lent.{floors_stated, large_web, same_numbers, same_webs}
 use Rattle.price_writer.proofs.WrittenLines.{eight_lists}
 use Rattle.price_writer.proofs.prices.write_by_lines.Goals as goal
 
@@ -37,6 +39,16 @@ webs_of-requires g c = record {
   all = subst (λ (ls : List PricedList). AreOf c.args.space.now ls) (sym c.deref-2.ensures.value)
       c.in_ok-priced.ensures.space;
 }
+
+pub returns-in_err-webs-clause-large : goal.returns-in_err-webs-clause-large
+returns-in_err-webs-clause-large g c = λ is.
+    let space = c.args.space.now in
+    let told = err_from_is_err_and c.from_residual-in_err-webs.result c.from_residual-in_err-webs.ensures.1 in
+    told_large space (map line_of c.args.lines.now) c.in_ok-own.own.items c.in_ok-priced.priced.items c.deref-2.result.now
+    c.deref-2.ensures.value (rw c.sheet-sheet.ensures at c.in_ok-own.ensures)
+    (c.in_ok-priced.ensures.lists ∙ ap (map list_owned) c.deref.ensures.value) c.in_ok-priced.ensures.space
+    (c.webs_of.ensures.large (large_web c.webs_of.result c.in_err-webs.field-0.0 c.from_residual-in_err-webs.result c.in_err-webs.was is
+    (told.1 ∙ ap Err told.2)))
 
 pub list_numbers-requires : goal.list_numbers-requires
 list_numbers-requires g c = (
@@ -109,6 +121,14 @@ write_priced-requires-clause-fit g c =
     (subst (λ (bs : List ℕ). FitBehind space.exercise space.sheet bs (map line_of c.args.lines.now)) c.requires.front
     c.requires.fit)
 
+pub write_priced-requires-clause-small : goal.write_priced-requires-clause-small
+write_priced-requires-clause-small g c =
+    rw (c.new-case.ensures, c.exercise-exercise.ensures.value, c.sheet-sheet.ensures)
+    (none_large c.args.space.now (map line_of c.args.lines.now) c.in_ok-own.own.items c.in_ok-priced.priced.items
+    c.deref-2.result.now c.deref-2.ensures.value (rw c.sheet-sheet.ensures at c.in_ok-own.ensures)
+    (c.in_ok-priced.ensures.lists ∙ ap (map list_owned) c.deref.ensures.value) c.in_ok-priced.ensures.space
+    c.in_ok-webs.ensures.fits)
+
 pub write_priced-requires-clause-text : goal.write_priced-requires-clause-text
 write_priced-requires-clause-text g c =
     rw (c.new-case.ensures, c.exercise-exercise.ensures.value)
@@ -126,3 +146,9 @@ returns-clause-cut g c =
 pub returns-clause-too_long : goal.returns-clause-too_long
 returns-clause-too_long g c =
     rw (c.new-case.ensures, c.exercise-exercise.ensures.value, c.sheet-sheet.ensures) at c.write_priced.ensures.too_long
+
+pub returns-clause-large : goal.returns-clause-large
+returns-clause-large g c = λ is. absurd (c.write_priced.ensures.woven is)
+
+pub returns-clause-untouched : goal.returns-clause-untouched
+returns-clause-untouched g c = λ is. absurd (c.write_priced.ensures.woven is)

@@ -29,4 +29,4 @@ returns-in-Err-TooLong g c =
 pub returns-in-Err-TooLarge : goal.returns-in-Err-TooLarge
 returns-in-Err-TooLarge g c =
     let fault = c.in-Err-TooLarge.is ∙ ap Err c.in-Err-TooLarge.field-0-is in
-    (c.certify_prices.ensures.unwritten (inr (inl fault)), refl)
+    (c.certify_prices.ensures.unwritten (inr (inl fault)), (refl, c.certify_prices.ensures.large fault))
