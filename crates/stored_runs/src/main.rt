@@ -1,6 +1,5 @@
-//! Runs the cases that standard input has, with an empty line between each two, and tells how many
-//! there are, how many of them were run by `best` too, and which of them come out otherwise than
-//! they say.
+//! Runs the cases that standard input has, with an empty line behind each, and tells how many were
+//! run, how many of them by `best` too, and which of them come out otherwise than they say.
 #![tactic(auto)]
 
 mod cases;
@@ -29,10 +28,10 @@ fn main(rt: HostRuntime) -> io::Result<()> {
                     println!(rt; "otherwise by best: {}", case.title())?;
                 }
             }
+            count = count.saturating_add(1);
             case = known(Case::new(rt.alloc()))?;
         } else {
             known(case.take(&rt, rt.alloc(), line.as_str()))?;
-            count = count.saturating_add(u32::from(line.starts_with("case ")));
         }
     }
     println!(rt; "cases {count}, by best too {by_best}")
