@@ -1,21 +1,13 @@
 //! Worked cases of the rules, tolls and gauges, of marks, of the judge, of what is open behind a
 //! column and of the tables of least sums, with answers that were worked out by hand, and settings
-//! that are judged column by column, beside a plain reading of every rule and toll. They stand in a
-//! crate above those that they try, so that what carries the proofs is proved once.
-//!
-//! The plain reading is slow, and beside the judge's steps a second opinion: each rule that is read
-//! is asked at each place for each set of voices, and each toll at each place, as the definitions
-//! say it.
+//! that are judged column by column and as a whole. They stand in a crate above those that they
+//! try, so that what carries the proofs is proved once.
 #![tactic(auto)]
 
 #[cfg(test)]
 mod agree;
 #[cfg(test)]
-mod breaks;
-#[cfg(test)]
 mod chains;
-#[cfg(test)]
-mod charges;
 #[cfg(test)]
 mod chords;
 #[cfg(test)]
@@ -30,8 +22,6 @@ mod four_voices;
 mod leaps;
 #[cfg(test)]
 mod lines;
-#[cfg(test)]
-mod listing;
 #[cfg(test)]
 mod marks;
 #[cfg(test)]
@@ -49,13 +39,11 @@ mod parts;
 #[cfg(test)]
 mod pieces;
 #[cfg(test)]
-mod place;
-#[cfg(test)]
-mod plain;
-#[cfg(test)]
 mod pruning;
 #[cfg(test)]
 mod rows;
+#[cfg(test)]
+mod settings;
 #[cfg(test)]
 mod spans;
 #[cfg(test)]

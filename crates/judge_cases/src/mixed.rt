@@ -1,5 +1,5 @@
-//! Settings of mixed exercises, judged column by column beside the plain reading, and their breaks
-//! of S27 and S28. S15 is never broken in them.
+//! Settings of mixed exercises, judged column by column and as a whole, and their breaks of S27 and
+//! S28. S15 is never broken in them.
 
 ghost use Rattle.std.specs.Prelude.{◌≡◌, ◌≤◌, length};
 ghost use Rattle.fux_grid.specs.Exercises.{IsValid, columns_in};
@@ -7,7 +7,7 @@ ghost use Rattle.fux_grid.specs.Exercises.{IsValid, columns_in};
 use crate::agree::agree;
 use crate::mixed_tables::{JUDGED, WORKED};
 use crate::parts::parts;
-use crate::plain::judge;
+use crate::settings::judge;
 use fux_grid::{Exercise, Score, mixed_as};
 use score_marker::{Mark, marks};
 use short_scores::case_of;

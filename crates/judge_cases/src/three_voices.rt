@@ -1,4 +1,4 @@
-//! Settings in three voices, beside which `plain` tries the judge.
+//! Settings in three voices, on which `settings` tries the judge.
 
 /// Each setting with what is paid of it, where that is asked. The comment has the rules and tolls
 /// of which the rows above lack a voice, two voices or a species; at the end stand settings that
