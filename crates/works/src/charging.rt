@@ -121,11 +121,11 @@ fn output_beside(mut weighed: Weighed, found: &Found) -> Result<Output, Memory>
 
 /// What the setting of an exercise breaks and pays for by some rules, over a sheet of weights; and
 /// how far its penalty is from the best by them, where there is a budget to search for it.
-pub fn weigh<R: Threads + Sync>(
+pub fn weigh<'e, R: Threads + Sync>(
     rt: &R,
     alloc: Global,
-    ex: &Exercise,
-    rules: &Exercise,
+    ex: &Exercise<'e>,
+    rules: &Exercise<'e>,
     sheet: &Sheet,
     against: Option<u32>,
 ) -> Result<Output, Stop>
