@@ -1,4 +1,4 @@
-//! Worked cases of the rules, tolls and gauges, of marks, of the judge, of what is open behind a
+//! Worked cases of the rules, tolls and gauges, of the judge, of what is open behind a
 //! column and of the tables of least sums, with answers that were worked out by hand, and settings
 //! that are judged column by column and as a whole. They stand in a crate above those that they
 //! try, so that what carries the proofs is proved once.
@@ -22,8 +22,6 @@ mod four_voices;
 mod leaps;
 #[cfg(test)]
 mod lines;
-#[cfg(test)]
-mod marks;
 #[cfg(test)]
 mod meeting;
 #[cfg(test)]
