@@ -28,5 +28,6 @@ pub mod StateLemmas
 pub mod StepLemmas
 pub mod StepPlaces
 pub mod SumLemmas
+pub mod ToldFinds
 pub mod ToldLemmas
 pub mod Unmixed

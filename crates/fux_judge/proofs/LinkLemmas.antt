@@ -4,7 +4,7 @@
 use Rattle.std.proofs.Common.{◌≡◌, ℕ, ◌+◌, ◌*◌, ◌==◌, ◌≤◌, ◌&&◌, ◌||◌, Bool, true, false, if◌then◌else◌, List, [], ◌∷◌, map, Option, Some, None, zero, suc, refl, ap, sym, ◌∙◌, subst, arith}
 use Rattle.std.specs.Prelude.{IsSomeAnd}
 use Rattle.std.specs.Borrow.{Bor}
-use Rattle.std.specs.List.{filter, list_all, list_any, sum_by}
+use Rattle.std.specs.List.{filter, find, list_all, list_any, sum_by}
 use Rattle.std.proofs.lemmas.Bool.{and_parts, eqb-true, or_parts, cond-false}
 use Rattle.std.proofs.lemmas.List.Sums.{sum_by-cons}
 use Rattle.arrayvec.specs.ArrayVec.{ArrayVec}
@@ -317,6 +317,14 @@ module _ (l : Link) (ex : Bor Exercise) (i : ℕ) (prev : Option (Bor (ArrayVec 
       ∙ ap (λ n. list_any (breaks_strictly ex.now n (given l.prev) l.next.now) rules) f
       ∙ ap (λ p. list_any (breaks_strictly ex.now i (given p) l.next.now) rules) g
       ∙ ap (λ cells. list_any (breaks_strictly ex.now i (given prev) cells) rules) h
+
+  pub link_finds : (rules : List ℕ) → find (breaks_strictly_at_link l) rules
+      ≡ find (breaks_strictly ex.now i (given prev) next) rules
+  link_finds rules =
+      ap (λ (x : Bor Exercise). find (breaks_strictly x.now l.place (given l.prev) l.next.now) rules) e
+      ∙ ap (λ n. find (breaks_strictly ex.now n (given l.prev) l.next.now) rules) f
+      ∙ ap (λ p. find (breaks_strictly ex.now i (given p) l.next.now) rules) g
+      ∙ ap (λ cells. find (breaks_strictly ex.now i (given prev) cells) rules) h
 
   pub link_charges : (sheet : Sheet) (tolls : List ℕ)
       → sum_by (charge_at_link sheet l) tolls

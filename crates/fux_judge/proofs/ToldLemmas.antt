@@ -1,12 +1,12 @@
 -- The first rule that is broken of those that are told is the least of all where S3 isn't broken
 -- (`told_is_least`).
-use Rattle.std.proofs.Common.{◌≡◌, ℕ, ◌+◌, ◌*◌, ◌/◌, ◌<◌, ◌≤◌, ◌==◌, ◌&&◌, ◌||◌, Bool, true, false, List, [], ◌∷◌, ◌++◌, drop, get_or, length, reverse, slice_index_or, subst, refl, ap, sym, ◌∙◌, arith}
-use Rattle.std.specs.Prelude.{Some, None, cond, not}
+use Rattle.std.proofs.Common.{◌≡◌, ℕ, ◌+◌, ◌*◌, ◌/◌, ◌<◌, ◌≤◌, ◌==◌, ◌&&◌, ◌||◌, Bool, true, false, List, [], ◌∷◌, ◌++◌, drop, length, reverse, slice_index_or, subst, refl, ap, sym, ◌∙◌, arith}
+use Rattle.std.specs.Prelude.{Option, Some, None, cond, not}
 use Rattle.std.specs.List.{filter, find, list_all, list_any}
 use Rattle.std.proofs.Math.Seq.{get_or-append_seam}
 use Rattle.std.specs.Option.{option_or}
 use Rattle.std.proofs.lemmas.Bool.{eqb-true, not-true}
-use Rattle.std.proofs.lemmas.List.{drop_all, drop_more, length-append}
+use Rattle.std.proofs.lemmas.List.{length-append}
 use Rattle.std.proofs.lemmas.List.Folds.{find-append}
 use Rattle.fux_grid.specs.declared.cell.Cell.{Cell}
 use Rattle.fux_grid.specs.declared.exercise.Exercise.{Exercise}
@@ -14,33 +14,21 @@ use Rattle.fux_grid.specs.Menus.{IsInMenu}
 use Rattle.melody_rules.specs.Smooth.{some_rough}
 use Rattle.rule_law.specs.declared.table.Form.TheVariants.{OneVoice}
 use Rattle.rule_law.specs.Forms.{sets_of}
-use Rattle.rule_law.specs.Growth.{any_below}
-use Rattle.rule_law.specs.Law.{first_true, second_true}
+use Rattle.rule_law.specs.Growth.{any_below, list_any-same}
+use Rattle.rule_law.specs.Law.{first_true, reading-at_end, second_true}
 use Rattle.rule_law.specs.Prefixes.{GoesOn}
 use Rattle.rule_law.specs.Rulebooks.{IsAmong, newly_breaks}
 use Rattle.rhythm_cadence.specs.Book.{shape_rule}
 use Rattle.fux_judge.specs.declared.moment.Moment.{Moment}
-use Rattle.fux_judge.specs.Moments.{is_strictly_broken_then}
+use Rattle.fux_judge.specs.Links.{breaks_between, breaks_strictly, is_of_neighbors}
+use Rattle.fux_judge.specs.Moments.{IsAfter, is_strictly_broken_then}
 use Rattle.fux_judge.specs.Penalties.{is_strict_at, newly_broken, newly_broken_at}
-use Rattle.fux_judge.specs.Rules.{all_sets, is_broken, is_late, is_of_melody, is_read, rule_at, rules_read}
-use Rattle.fux_judge.specs.Told.{first_rules, joint_rules, least_newly_broken}
+use Rattle.fux_judge.specs.Rules.{all_sets, breaks, is_broken, is_late, is_of_melody, is_read, rule_at, rules_read}
+use Rattle.fux_judge.specs.Told.{first_rules, joint_rules, least_alone, least_newly_broken}
 use Rattle.fux_judge.proofs.KeptLemmas.{melody_kept, menu_kept}
 use Rattle.fux_judge.proofs.StepPlaces.{newly_broken-at_once, newly_broken-late}
 
 -- ---- the first of a list
-
-pub find_here : (f : ℕ → Bool) (xs : List ℕ) (i d : ℕ) → i < length xs → f (get_or xs i d) ≡ true
-    → find f (drop i xs) ≡ Some (get_or xs i d)
-find_here f xs i d h e =
-    ap (find f) (drop_more xs i d h) ∙ ap (λ b. cond b (Some (get_or xs i d)) (find f (drop (i + 1) xs))) e
-
-pub find_later : (f : ℕ → Bool) (xs : List ℕ) (i d : ℕ) → i < length xs → f (get_or xs i d) ≡ false
-    → find f (drop i xs) ≡ find f (drop (i + 1) xs)
-find_later f xs i d h e =
-    ap (find f) (drop_more xs i d h) ∙ ap (λ b. cond b (Some (get_or xs i d)) (find f (drop (i + 1) xs))) e
-
-pub nothing_left : (f : ℕ → Bool) (xs : List ℕ) (i : ℕ) → length xs ≤ i → find f (drop i xs) ≡ None
-nothing_left f xs i h = ap (find f) (drop_all i xs h)
 
 -- tests that agree where a third one holds find the same in a list of which each passes that one
 pub find_where : (test f g : ℕ → Bool) (xs : List ℕ) → list_all test xs ≡ true → ((x : ℕ) → test x ≡ true → f x ≡ g x)
@@ -146,6 +134,113 @@ module _ (ex : Exercise) (p : List (List Cell)) (col : List Cell) (m : Moment) (
       (sym (strictly_newly 1 (range_at_once 1 refl)) ∙ kept.0)
       (sym (strictly_newly 2 (range_at_once 2 refl)) ∙ kept.1)
       third
+
+-- ---- what a column decides by itself
+
+joint_are : joint_rules ≡ 10 ∷ 11 ∷ 12 ∷ 13 ∷ 14 ∷ []
+unfolding rule_at joint_rules
+joint_are = refl
+
+-- the first of four that pass, and of five: the third of these is before the last two
+abbrev first_of_four : Bool → Bool → Bool → Bool → Option ℕ
+first_of_four a b c d = cond a (Some 10) (cond b (Some 11) (cond c (Some 13) (cond d (Some 14) None)))
+
+abbrev first_of_five : Bool → Bool → Bool → Bool → Bool → Option ℕ
+first_of_five a b s c d =
+    cond a (Some 10) (cond b (Some 11) (cond s (Some 12) (cond c (Some 13) (cond d (Some 14) None))))
+
+early_first : (a b s c d : Bool) (rule : ℕ) → first_of_four a b c d ≡ Some rule → rule < 12
+    → first_of_five a b s c d ≡ Some rule
+early_first true b s c d rule e low = e
+early_first false true s c d rule e low = e
+early_first false false s true d rule e low = let n : 13 ≡ rule = cc in absurd (omega (arith, n, low))
+early_first false false s false true rule e low = let n : 14 ≡ rule = cc in absurd (omega (arith, n, low))
+early_first false false s false false rule e low = cc
+
+third_first : (a b s c d : Bool) (rule : ℕ) → first_of_four a b c d ≡ Some rule → 12 ≤ rule → s ≡ true
+    → first_of_five a b s c d ≡ Some 12
+third_first true b s c d rule e high t = let n : 10 ≡ rule = cc in absurd (omega (arith, n, high))
+third_first false true s c d rule e high t = let n : 11 ≡ rule = cc in absurd (omega (arith, n, high))
+third_first false false s c d rule e high t = ap (λ b. cond b (Some 12) (cond c (Some 13) (cond d (Some 14) None))) t
+
+late_first : (a b s c d : Bool) (rule : ℕ) → first_of_four a b c d ≡ Some rule → 12 ≤ rule → s ≡ false
+    → first_of_five a b s c d ≡ Some rule
+late_first true b s c d rule e high t = e
+late_first false true s c d rule e high t = e
+late_first false false s c d rule e high t =
+    ap (λ b. cond b (Some 12) (cond c (Some 13) (cond d (Some 14) None))) t ∙ e
+
+module _ (p : List (List Cell)) (m : Moment) (after : IsAfter p m) where
+  abbrev test : ℕ → Bool
+  test rule = is_strictly_broken_then all_sets rule p m
+
+  abbrev alone : ℕ → Bool
+  alone rule = breaks_strictly m.exercise.now m.state.now.newest.len None m.column.now rule
+
+  -- a rule that reads nothing before the column is broken after each prefix or none
+  broken_alone : (rule : ℕ) → is_of_neighbors (rule_at rule).kind ≡ true
+      → ((behind : List (List Cell)) (v : ℕ) → breaks rule m.exercise.now v (length p) behind m.column.now []
+      ≡ breaks rule m.exercise.now v (length p) [] m.column.now [])
+      → is_strictly_broken_then all_sets rule p m
+      ≡ breaks_strictly m.exercise.now m.state.now.newest.len None m.column.now rule
+  broken_alone rule kind reads =
+      let ex = m.exercise.now in
+      let col = m.column.now in
+      list_any-same (λ v. is_broken rule ex v (p ++ col ∷ []) (length p) && is_strict_at rule ex v (length p))
+      (λ v. breaks_between ex (length p) None col rule v && is_strict_at rule ex v (length p)) all_sets
+      (λ v. ap (λ b. b && is_strict_at rule ex v (length p))
+      (reading-at_end (breaks rule ex v) p col ∙ reads (reverse p) v
+      ∙ ap (λ b. b && breaks rule ex v (length p) [] col []) (sym kind)))
+      ∙ ap (λ n. breaks_strictly ex n None col rule) (sym after.state.newest.count)
+
+  crossed_alone : is_strictly_broken_then all_sets 10 p m
+      ≡ breaks_strictly m.exercise.now m.state.now.newest.len None m.column.now 10
+  unfolding rule_at
+  crossed_alone = broken_alone 10 refl (λ behind v. refl)
+
+  met_alone : is_strictly_broken_then all_sets 11 p m
+      ≡ breaks_strictly m.exercise.now m.state.now.newest.len None m.column.now 11
+  unfolding rule_at
+  met_alone = broken_alone 11 refl (λ behind v. refl)
+
+  ended_alone : is_strictly_broken_then all_sets 13 p m
+      ≡ breaks_strictly m.exercise.now m.state.now.newest.len None m.column.now 13
+  unfolding rule_at
+  ended_alone = broken_alone 13 refl (λ behind v. refl)
+
+  clashed_alone : is_strictly_broken_then all_sets 14 p m
+      ≡ breaks_strictly m.exercise.now m.state.now.newest.len None m.column.now 14
+  unfolding rule_at
+  clashed_alone = broken_alone 14 refl (λ behind v. refl)
+
+  -- what is found of those that a column decides by itself is found at the moment
+  found_alone : (rule : ℕ) → least_alone m.exercise.now m.state.now.newest.len m.column.now ≡ Some rule
+      → first_of_four (test 10) (test 11) (test 13) (test 14) ≡ Some rule
+  unfolding least_alone
+  found_alone rule e =
+      ap (λ a. first_of_four a (test 11) (test 13) (test 14)) crossed_alone
+      ∙ ap (λ b. first_of_four (alone 10) b (test 13) (test 14)) met_alone
+      ∙ ap (λ c. first_of_four (alone 10) (alone 11) c (test 14)) ended_alone
+      ∙ ap (λ d. first_of_four (alone 10) (alone 11) (alone 13) d) clashed_alone
+      ∙ e
+
+  module _ (rule : ℕ) (e : least_alone m.exercise.now m.state.now.newest.len m.column.now ≡ Some rule) where
+    pub early_joint : rule < 12 → find (λ r. is_strictly_broken_then all_sets r p m) joint_rules ≡ Some rule
+    early_joint low =
+        ap (find test) joint_are
+        ∙ early_first (test 10) (test 11) (test 12) (test 13) (test 14) rule (found_alone rule e) low
+
+    pub third_joint : 12 ≤ rule → is_strictly_broken_then all_sets 12 p m ≡ true
+        → find (λ r. is_strictly_broken_then all_sets r p m) joint_rules ≡ Some 12
+    third_joint high t =
+        ap (find test) joint_are
+        ∙ third_first (test 10) (test 11) (test 12) (test 13) (test 14) rule (found_alone rule e) high t
+
+    pub late_joint : 12 ≤ rule → is_strictly_broken_then all_sets 12 p m ≡ false
+        → find (λ r. is_strictly_broken_then all_sets r p m) joint_rules ≡ Some rule
+    late_joint high t =
+        ap (find test) joint_are
+        ∙ late_first (test 10) (test 11) (test 12) (test 13) (test 14) rule (found_alone rule e) high t
 
 -- ---- S3
 

@@ -1,9 +1,10 @@
 -- Which rules that a column breaks are told without judging all of it.
-use Rattle.std.specs.Prelude.{ℕ, not, List, [], ◌∷◌, Option}
+use Rattle.std.specs.Prelude.{ℕ, not, List, [], ◌∷◌, Option, None}
 use Rattle.std.specs.List.{filter, find}
 use Rattle.fux_grid.specs.declared.cell.Cell.{Cell}
 use Rattle.fux_grid.specs.declared.exercise.Exercise.{Exercise}
 use Rattle.fux_grid.specs.Columns.{Columns}
+use Rattle.fux_judge.specs.Links.{breaks_strictly}
 use Rattle.fux_judge.specs.Penalties.{newly_broken}
 use Rattle.fux_judge.specs.Rules.{is_of_melody, rules_read}
 
@@ -14,6 +15,14 @@ first_rules = 4 ∷ 5 ∷ 6 ∷ 7 ∷ 8 ∷ 9 ∷ 10 ∷ 11 ∷ 12 ∷ 13 ∷ 14
 -- those of them that aren't of melody
 unfoldable pub joint_rules : List ℕ
 joint_rules = filter (λ rule. not (is_of_melody rule)) first_rules
+
+-- those of these that a column decides by itself
+abbrev pub alone_rules : List ℕ
+alone_rules = 10 ∷ 11 ∷ 13 ∷ 14 ∷ []
+
+-- the least of them that a column of place i breaks strictly, whatever stands before it
+unfoldable pub least_alone : Exercise → ℕ → List Cell → Option ℕ
+least_alone ex i col = find (breaks_strictly ex i None col) alone_rules
 
 -- the least rule of which the column settles a strict break
 abbrev pub least_newly_broken : Exercise → Columns → List Cell → Option ℕ

@@ -29,7 +29,7 @@ mod whole;
 pub use always::is_always_dead;
 pub use late::idle_rules;
 pub use lines::least;
-pub use link::{column_cost, link_cost, pair_cost};
+pub use link::{alone_rule, column_cost, link_cost, pair_cost};
 pub use moves::{move_cost, moves_are_least, pair_cost_from};
 pub use numbers::{every_rule, every_set, every_toll};
 pub use past::Past;

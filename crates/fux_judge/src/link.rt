@@ -1,11 +1,12 @@
 //! What a column decides by itself, and with the one before it.
 
 ghost use Rattle.std.specs.Prelude.{◌≡◌, ◌≤◌, ◌<◌, ◌+◌, ◌*◌, ◌^◌, ◌&&◌, true, Option, IsTrue, IfSome, Some, length, nat_le};
-ghost use Rattle.std.specs.List.{list_all, list_any, sum_by};
+ghost use Rattle.std.specs.List.{find, list_all, list_any, sum_by};
 ghost use Rattle.fux_grid.specs.Exercises.{IsValid, columns_in};
 ghost use Rattle.fux_judge.specs.Links.{IsLeastOfLinks, column_of, given, is_rule_between, is_toll_between, link_of, pair_of};
 ghost use Rattle.fux_judge.specs.Neighbors.{IsLink, breaks_at_link, breaks_strictly_at_link, charge_at_link, cost_at_link, is_strict_for};
 ghost use Rattle.fux_judge.specs.Penalties.{is_strict_at};
+ghost use Rattle.fux_judge.specs.Told.{alone_rules, least_alone};
 ghost use Rattle.penalty_sheet.specs.Weights.{greatest_toll};
 
 use crate::all_rules::{AllRules, form_of};
@@ -14,6 +15,9 @@ use crate::pairs::{breaks_pair_rule, pair_charges};
 use fux_grid::{Cell, Column, Exercise, VoiceSet, bar_of};
 use penalty_sheet::{Sheet, price_at, weight};
 use rule_law::{RuleCrate, cells_of, is_quiet, latest_of_column, sets_of};
+
+/// The rules from S10 to S14 that a column decides by itself.
+const ALONE_RULES: [u8; 4] = [10, 11, 13, 14];
 
 /// A column of a setting, and the one before it.
 #[derive(Clone, Copy)]
@@ -115,6 +119,40 @@ fn breaks_one(rules: &[u8], link: &Link<'_>) -> bool
         }
     }
     false
+}
+
+/// The first of these rules of neighbors that is strictly broken there.
+fn first_of(rules: &[u8], link: &Link<'_>) -> Option<u8>
+    requires numbers { IsTrue (list_all is_rule_between rules.now) }
+    requires link { IsLink link.now }
+    ensures { result ≡ find (breaks_strictly_at_link link.now) rules.now }
+{
+    for rule in rules {
+        if breaks_rule(*rule, link) {
+            return Some(*rule);
+        }
+    }
+    None
+}
+
+/// The rules from S10 to S14 that a column decides by itself, as a list.
+#[tactic(auto, unfolding(crate::specs::Rules::rule_at))]
+fn decided_alone() -> &'static [u8]
+    ensures value { result.now ≡ alone_rules }
+    ensures kinds { IsTrue (list_all is_rule_between result.now) }
+{
+    &ALONE_RULES
+}
+
+/// The least of the rules S10, S11, S13 and S14 that a column of place `i` breaks strictly, whatever
+/// stands before it.
+pub fn alone_rule<'a>(ex: &'a Exercise<'a>, i: usize, col: &'a Column) -> Option<u8>
+    requires valid { IsValid ex.now }
+    requires place { i < columns_in ex.now }
+    ensures { result ≡ least_alone ex.now i col.now.items }
+{
+    let link = link_between(ex, i, None, col);
+    first_of(decided_alone(), &link)
 }
 
 /// What a toll of neighbors costs there, without its weight.

@@ -9,7 +9,7 @@ ghost use Rattle.rule_law.specs.Prefixes.{GoesOn};
 ghost use Rattle.fux_judge.specs.Moments.{IsAfter, IsReadable, is_strictly_broken_then};
 ghost use Rattle.fux_judge.specs.Penalties.{newly_broken};
 ghost use Rattle.fux_judge.specs.Rules.{all_sets, is_late, is_read};
-ghost use Rattle.fux_judge.specs.Told.{first_rules, joint_rules, least_newly_broken};
+ghost use Rattle.fux_judge.specs.Told.{first_rules, joint_rules, least_alone, least_newly_broken};
 ghost use Rattle.fux_judge.specs.Verdicts.{GoingOn};
 
 use crate::moment::Moment;
@@ -96,12 +96,39 @@ fn keeps_shapes(m: &Moment<'_>) -> bool
     true
 }
 
+/// The first of the first rules that is strictly broken. Where the least one that the column breaks
+/// by itself is known and each voice is smooth, no more than S12 is asked.
+fn first_told(m: &Moment<'_>, alone: Option<u8>) -> Option<u8>
+    requires readable { IsReadable m.now }
+    requires alone { IfSome alone (λ rule. least_alone m.now.exercise.now m.now.state.now.newest.len
+        m.now.column.now ≡ Some rule) }
+    ensures { (p : Columns) → IsAfter p m.now
+        → result ≡ find (λ rule. is_strictly_broken_then all_sets rule p m.now) first_rules }
+{
+    let Some(rule) = alone else {
+        return first_broken(rules_to_ask(m), m);
+    };
+    if !are_smooth(m.exercise, &m.state.past.parts.first, m.column) {
+        return first_broken(told_rules(), m);
+    }
+    if rule < 12 {
+        return Some(rule);
+    }
+    if is_strictly_broken_now(12, m) {
+        return Some(12);
+    }
+    Some(rule)
+}
+
 /// The least rule of which a column settles a strict break, where it is one of the first and soon
-/// told: most columns that break a rule break one of these. None where it isn't told.
-pub fn told_rule(ex: &Exercise, state: &State, col: &Column) -> Option<u8>
+/// told: most columns that break a rule break one of these. None where it isn't told. The least
+/// rule that the column breaks by itself may be given: then it is told sooner.
+pub fn told_rule(ex: &Exercise, state: &State, col: &Column, alone: Option<u8>) -> Option<u8>
     requires valid { IsValid ex.now }
     requires room { state.now.newest.len < columns_in ex.now }
     requires full { length col.now.items ≡ ex.now.voices }
+    requires alone { IfSome alone (λ rule. least_alone ex.now state.now.newest.len col.now.items
+        ≡ Some rule) }
     ensures { IfSome result (λ rule. GoingOn ex.now state.now col.now.items
         (λ p added. least_newly_broken ex.now p added ≡ Some rule)) }
 {
@@ -109,7 +136,7 @@ pub fn told_rule(ex: &Exercise, state: &State, col: &Column) -> Option<u8>
         return None;
     }
     let moment = moment_of(ex, state, col);
-    let rule = first_broken(rules_to_ask(&moment), &moment)?;
+    let rule = first_told(&moment, alone)?;
     if keeps_shapes(&moment) {
         return Some(rule);
     }

@@ -2,7 +2,7 @@ use Rattle.std.proofs.Common.{ℕ, Bool, sym, ◌∙◌, arith}
 use Rattle.fux_judge.specs.Rules.{all_sets}
 use Rattle.fux_judge.specs.Moments.{is_strictly_broken_then}
 use Rattle.fux_judge.proofs.SumLemmas.{rule_in_range}
-use Rattle.fux_judge.proofs.ToldLemmas.{find_here, find_later, nothing_left}
+use Rattle.fux_judge.proofs.ToldFinds.{find_here, find_later, nothing_left}
 use Rattle.fux_judge.proofs.told.first_broken.Goals as goal
 
 pub is_strictly_broken_now-requires-clause-rule : goal.is_strictly_broken_now-requires-clause-rule

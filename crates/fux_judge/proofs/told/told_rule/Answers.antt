@@ -1,11 +1,23 @@
-use Rattle.std.proofs.Common.{◌∷◌, [], List, ap, sym, ◌∙◌, subst}
+use Rattle.std.proofs.Common.{◌≡◌, ◌∷◌, [], List, ap, sym, ◌∙◌, subst}
+use Rattle.std.specs.Prelude.{IfSome, Some}
 use Rattle.std.proofs.lemmas.Bool.{OnTrue_at}
 use Rattle.fux_grid.specs.declared.cell.Cell.{Cell}
 use Rattle.fux_grid.specs.declared.exercise.Exercise.{Exercise}
 use Rattle.rule_law.specs.Prefixes.{GoesOn}
 use Rattle.fux_judge.specs.Penalties.{newly_broken}
+use Rattle.fux_judge.specs.Told.{least_alone}
 use Rattle.fux_judge.proofs.ToldLemmas.{told_is_least}
 use Rattle.fux_judge.proofs.told.told_rule.Goals as goal
+
+pub first_told-requires-clause-alone : goal.first_told-requires-clause-alone
+first_told-requires-clause-alone c =
+    let m = c.moment_of-moment.result in
+    let is = c.moment_of-moment.ensures in
+    subst (λ (ex : Exercise). IfSome c.args.alone (λ rule. least_alone ex m.state.now.newest.len m.column.now ≡ Some rule))
+    (sym is.exercise)
+    (subst (λ n. IfSome c.args.alone (λ rule. least_alone c.args.ex.now n m.column.now ≡ Some rule)) (sym is.place)
+    (subst (λ (d : List Cell). IfSome c.args.alone (λ rule. least_alone c.args.ex.now c.args.state.now.newest.len d
+    ≡ Some rule)) (sym is.column) c.requires.alone))
 
 pub returns-then-keeps_shapes : goal.returns-then-keeps_shapes
 returns-then-keeps_shapes c = λ p st on.
@@ -19,6 +31,6 @@ returns-then-keeps_shapes c = λ p st on.
     subst (λ (e : Exercise). GoesOn e p (m.column.now ∷ [])) (sym same)
     (subst (λ (d : List Cell). GoesOn ex p (d ∷ [])) (sym its) on) in
     told_is_least ex p col m same its c.in_ok-rule.rule
-    (c.in_ok-rule.ensures p after ∙ c.rules_to_ask.ensures.asked p after) on
+    (c.in_ok-rule.ensures p after) on
     (sym (ap (λ e. newly_broken e p m.column.now 3) same ∙ ap (λ d. newly_broken ex p d 3) its)
     ∙ OnTrue_at c.if-keeps_shapes.true c.keeps_shapes.ensures p after there)
