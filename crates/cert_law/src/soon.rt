@@ -37,7 +37,7 @@ pub fn told_break(case: &Case<'_>, judged: &Judged, column: &Column) -> Option<u
     if has_length(case, judged.state.newest.len + 1) {
         return None;
     }
-    if let Some(rule) = told_rule(case.exercise, &judged.state, column, None) {
+    if let Some(rule) = told_rule(case.exercise, &judged.state, column, None, None) {
         return Some(rule);
     }
     None

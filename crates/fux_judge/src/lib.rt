@@ -35,7 +35,7 @@ pub use numbers::{every_rule, every_set, every_toll};
 pub use past::Past;
 pub use pruning::pruned_within;
 pub use state::State;
-pub use told::{is_told_broken, told_rule};
+pub use told::{is_smooth_voice, is_told_broken, told_rule};
 pub use total::penalty;
 pub use unbroken::{Price, step_again, step_unbroken};
 pub use verdict::{Verdict, step};

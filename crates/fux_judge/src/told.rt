@@ -5,11 +5,13 @@ ghost use Rattle.std.specs.Bool.{OnTrue};
 ghost use Rattle.std.specs.List.{find, list_all};
 ghost use Rattle.fux_grid.specs.Columns.{Columns};
 ghost use Rattle.fux_grid.specs.Exercises.{IsValid, columns_in};
+ghost use Rattle.melody_rules.specs.Notes.{AreNotesOf};
+ghost use Rattle.melody_rules.specs.Smooth.{is_rough_at, some_rough};
 ghost use Rattle.rule_law.specs.Prefixes.{GoesOn};
 ghost use Rattle.fux_judge.specs.Moments.{IsAfter, IsReadable, is_strictly_broken_then};
 ghost use Rattle.fux_judge.specs.Penalties.{newly_broken};
 ghost use Rattle.fux_judge.specs.Rules.{all_sets, is_late, is_read};
-ghost use Rattle.fux_judge.specs.Told.{first_rules, joint_rules, least_alone, least_newly_broken};
+ghost use Rattle.fux_judge.specs.Told.{TellsSmooth, first_rules, joint_rules, least_alone, least_newly_broken};
 ghost use Rattle.fux_judge.specs.Verdicts.{GoingOn};
 
 use crate::moment::Moment;
@@ -17,7 +19,7 @@ use crate::reading::is_strictly_broken_now;
 use crate::state::State;
 use crate::verdict::moment_of;
 use fux_grid::{Column, Exercise, VoiceSet};
-use melody_rules::are_smooth;
+use melody_rules::{are_smooth, is_smooth_in};
 use rhythm_cadence::Rhythm;
 use rule_law::{Form, RuleCrate, is_quiet, sets_of};
 
@@ -45,15 +47,38 @@ fn told_jointly() -> &'static [u8]
     &JOINT_RULES
 }
 
+/// Whether the column breaks no rule of melody in any voice: as it is told, or else as it is found.
+fn breaks_no_melody(m: &Moment<'_>, smooth: Option<bool>) -> bool
+    requires smooth { TellsSmooth m.now.exercise.now m.now.state.now m.now.column.now smooth }
+    ensures { (behind : Columns) → AreNotesOf behind m.now.state.now.past.parts.first
+        → result ≡ not (some_rough m.now.exercise.now behind m.now.column.now) }
+{
+    match smooth {
+        Some(told) => told,
+        None => are_smooth(m.exercise, &m.state.past.parts.first, m.column),
+    }
+}
+
+/// Whether a voice of a column that comes after a prefix breaks no rule of melody, or is the cantus
+/// or isn't there.
+pub fn is_smooth_voice(ex: &Exercise, state: &State, col: &Column, v: u8) -> bool
+    requires { v < 4 }
+    ensures { (behind : Columns) → AreNotesOf behind state.now.past.parts.first
+        → result ≡ not (is_rough_at ex.now behind col.now.items v) }
+{
+    is_smooth_in(ex, &state.past.parts.first, col.as_slice(), v)
+}
+
 /// Those of the first rules that are left to ask: where each voice is smooth, none of melody is
 /// broken.
-fn rules_to_ask(m: &Moment<'_>) -> &'static [u8]
+fn rules_to_ask(m: &Moment<'_>, smooth: Option<bool>) -> &'static [u8]
+    requires smooth { TellsSmooth m.now.exercise.now m.now.state.now m.now.column.now smooth }
     ensures numbers { IsTrue (list_all (λ rule. nat_lt rule 32 && not (is_late rule)) result.now) }
     ensures asked { (p : Columns) → IsAfter p m.now
         → find (λ rule. is_strictly_broken_then all_sets rule p m.now) result.now
         ≡ find (λ rule. is_strictly_broken_then all_sets rule p m.now) first_rules }
 {
-    if are_smooth(m.exercise, &m.state.past.parts.first, m.column) {
+    if breaks_no_melody(m, smooth) {
         return told_jointly();
     }
     told_rules()
@@ -98,17 +123,18 @@ fn keeps_shapes(m: &Moment<'_>) -> bool
 
 /// The first of the first rules that is strictly broken. Where the least one that the column breaks
 /// by itself is known and each voice is smooth, no more than S12 is asked.
-fn first_told(m: &Moment<'_>, alone: Option<u8>) -> Option<u8>
+fn first_told(m: &Moment<'_>, alone: Option<u8>, smooth: Option<bool>) -> Option<u8>
     requires readable { IsReadable m.now }
+    requires smooth { TellsSmooth m.now.exercise.now m.now.state.now m.now.column.now smooth }
     requires alone { IfSome alone (λ rule. least_alone m.now.exercise.now m.now.state.now.newest.len
         m.now.column.now ≡ Some rule) }
     ensures { (p : Columns) → IsAfter p m.now
         → result ≡ find (λ rule. is_strictly_broken_then all_sets rule p m.now) first_rules }
 {
     let Some(rule) = alone else {
-        return first_broken(rules_to_ask(m), m);
+        return first_broken(rules_to_ask(m, smooth), m);
     };
-    if !are_smooth(m.exercise, &m.state.past.parts.first, m.column) {
+    if !breaks_no_melody(m, smooth) {
         return first_broken(told_rules(), m);
     }
     if rule < 12 {
@@ -121,14 +147,22 @@ fn first_told(m: &Moment<'_>, alone: Option<u8>) -> Option<u8>
 }
 
 /// The least rule of which a column settles a strict break, where it is one of the first and soon
-/// told: most columns that break a rule break one of these. None where it isn't told. The least
-/// rule that the column breaks by itself may be given: then it is told sooner.
-pub fn told_rule(ex: &Exercise, state: &State, col: &Column, alone: Option<u8>) -> Option<u8>
+/// told: most columns that break a rule break one of these. None where it isn't told. It is told
+/// sooner where the least rule is given that the column breaks by itself, and whether it breaks none
+/// of melody.
+pub fn told_rule(
+    ex: &Exercise,
+    state: &State,
+    col: &Column,
+    alone: Option<u8>,
+    smooth: Option<bool>,
+) -> Option<u8>
     requires valid { IsValid ex.now }
     requires room { state.now.newest.len < columns_in ex.now }
     requires full { length col.now.items ≡ ex.now.voices }
     requires alone { IfSome alone (λ rule. least_alone ex.now state.now.newest.len col.now.items
         ≡ Some rule) }
+    requires smooth { TellsSmooth ex.now state.now col.now.items smooth }
     ensures { IfSome result (λ rule. GoingOn ex.now state.now col.now.items
         (λ p added. least_newly_broken ex.now p added ≡ Some rule)) }
 {
@@ -136,7 +170,7 @@ pub fn told_rule(ex: &Exercise, state: &State, col: &Column, alone: Option<u8>) 
         return None;
     }
     let moment = moment_of(ex, state, col);
-    let rule = first_told(&moment, alone)?;
+    let rule = first_told(&moment, alone, smooth)?;
     if keeps_shapes(&moment) {
         return Some(rule);
     }

@@ -17,7 +17,7 @@ returns-then-rule-lt12 c = λ p after.
     sym (early_joint p m after c.in-Some.rule e (omega (arith, c.if-rule-lt12.true)))
     ∙ asked_jointly m.exercise.now p m.column.now m refl refl
     (not_rough (some_rough m.exercise.now (reverse p) m.column.now)
-    (sym c.if-not-are_smooth.false ∙ c.are_smooth.ensures (reverse p) after.state.past.melody))
+    (sym c.if-not-breaks_no_melody.false ∙ c.breaks_no_melody.ensures (reverse p) after.state.past.melody))
 
 pub returns-then-is_strictly_broken_now : goal.returns-then-is_strictly_broken_now
 returns-then-is_strictly_broken_now c = λ p after.
@@ -28,7 +28,7 @@ returns-then-is_strictly_broken_now c = λ p after.
     (sym (c.is_strictly_broken_now.ensures p after) ∙ c.if-is_strictly_broken_now.true))
     ∙ asked_jointly m.exercise.now p m.column.now m refl refl
     (not_rough (some_rough m.exercise.now (reverse p) m.column.now)
-    (sym c.if-not-are_smooth.false ∙ c.are_smooth.ensures (reverse p) after.state.past.melody))
+    (sym c.if-not-breaks_no_melody.false ∙ c.breaks_no_melody.ensures (reverse p) after.state.past.melody))
 
 pub returns : goal.returns
 returns c = λ p after.
@@ -39,4 +39,4 @@ returns c = λ p after.
     (sym (c.is_strictly_broken_now.ensures p after) ∙ c.if-is_strictly_broken_now.false))
     ∙ asked_jointly m.exercise.now p m.column.now m refl refl
     (not_rough (some_rough m.exercise.now (reverse p) m.column.now)
-    (sym c.if-not-are_smooth.false ∙ c.are_smooth.ensures (reverse p) after.state.past.melody))
+    (sym c.if-not-breaks_no_melody.false ∙ c.breaks_no_melody.ensures (reverse p) after.state.past.melody))

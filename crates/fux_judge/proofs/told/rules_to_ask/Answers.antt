@@ -7,13 +7,13 @@ use Rattle.fux_judge.proofs.KeptLemmas.{not_rough}
 use Rattle.fux_judge.proofs.ToldLemmas.{asked_jointly}
 use Rattle.fux_judge.proofs.told.rules_to_ask.Goals as goal
 
-pub returns-then-are_smooth-clause-asked : goal.returns-then-are_smooth-clause-asked
-returns-then-are_smooth-clause-asked c = λ p after.
+pub returns-then-breaks_no_melody-clause-asked : goal.returns-then-breaks_no_melody-clause-asked
+returns-then-breaks_no_melody-clause-asked c = λ p after.
     let m = c.args.m.now in
     ap (find (λ r. is_strictly_broken_then all_sets r p m)) c.told_jointly.ensures.value
     ∙ asked_jointly m.exercise.now p m.column.now m refl refl
     (not_rough (some_rough m.exercise.now (reverse p) m.column.now)
-    (sym c.if-are_smooth.true ∙ c.are_smooth.ensures (reverse p) after.state.past.melody))
+    (sym c.if-breaks_no_melody.true ∙ c.breaks_no_melody.ensures (reverse p) after.state.past.melody))
 
 pub returns-clause-asked : goal.returns-clause-asked
 returns-clause-asked c = λ p after.

@@ -5,7 +5,8 @@ use Rattle.fux_grid.specs.declared.cell.Cell.{Cell}
 use Rattle.fux_grid.specs.declared.exercise.Exercise.{Exercise}
 use Rattle.rule_law.specs.Prefixes.{GoesOn}
 use Rattle.fux_judge.specs.Penalties.{newly_broken}
-use Rattle.fux_judge.specs.Told.{least_alone}
+use Rattle.fux_judge.specs.Told.{TellsSmooth, least_alone}
+use Rattle.fux_judge.specs.declared.state.State.{State}
 use Rattle.fux_judge.proofs.ToldLemmas.{told_is_least}
 use Rattle.fux_judge.proofs.told.told_rule.Goals as goal
 
@@ -18,6 +19,15 @@ first_told-requires-clause-alone c =
     (subst (λ n. IfSome c.args.alone (λ rule. least_alone c.args.ex.now n m.column.now ≡ Some rule)) (sym is.place)
     (subst (λ (d : List Cell). IfSome c.args.alone (λ rule. least_alone c.args.ex.now c.args.state.now.newest.len d
     ≡ Some rule)) (sym is.column) c.requires.alone))
+
+pub first_told-requires-clause-smooth : goal.first_told-requires-clause-smooth
+first_told-requires-clause-smooth c =
+    let m = c.moment_of-moment.result in
+    let is = c.moment_of-moment.ensures in
+    subst (λ (ex : Exercise). TellsSmooth ex m.state.now m.column.now c.args.smooth) (sym is.exercise)
+    (subst (λ (state : State). TellsSmooth c.args.ex.now state m.column.now c.args.smooth) (sym is.state)
+    (subst (λ (d : List Cell). TellsSmooth c.args.ex.now c.args.state.now d c.args.smooth) (sym is.column)
+    c.requires.smooth))
 
 pub returns-then-keeps_shapes : goal.returns-then-keeps_shapes
 returns-then-keeps_shapes c = λ p st on.
