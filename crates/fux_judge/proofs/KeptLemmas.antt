@@ -33,7 +33,7 @@ use Rattle.fux_judge.proofs.PruningLemmas.{one_of}
 use Rattle.fux_judge.proofs.QuietLemmas.{none_passes}
 
 -- what holds of two numbers holds of one that is one of them
-of_two : (P : ℕ → Type 0) (a b rule : ℕ) → P a → P b → ((rule == a) || (rule == b)) ≡ true → P rule
+pub of_two : (P : ℕ → Type 0) (a b rule : ℕ) → P a → P b → ((rule == a) || (rule == b)) ≡ true → P rule
 of_two P a b rule pa pb = at (rule == a) refl
   where
     at : (t : Bool) → (rule == a) ≡ t → (t || (rule == b)) ≡ true → P rule
@@ -41,7 +41,7 @@ of_two P a b rule pa pb = at (rule == a) refl
     at false e h = subst P (sym (eqb-true rule b h)) pb
 
 -- rules that are never found broken may be left out
-left_out : (broken out : ℕ → Bool) (rules : List ℕ) (r : ℕ) → ((rule : ℕ) → out rule ≡ true → broken rule ≡ false)
+pub left_out : (broken out : ℕ → Bool) (rules : List ℕ) (r : ℕ) → ((rule : ℕ) → out rule ≡ true → broken rule ≡ false)
     → list_any (λ rule. broken rule && r == rule) (filter (λ rule. not (out rule)) rules)
     ≡ list_any (λ rule. broken rule && r == rule) rules
 left_out broken out rules r kept = any-filter_same (λ rule. broken rule && r == rule) (λ rule. not (out rule)) true
@@ -65,11 +65,11 @@ all_of_them : list_all (λ r. not (is_late r)) told_of ≡ true
 unfolding rule_at
 all_of_them = refl
 
-at_once : (rule : ℕ) → list_any (λ other. rule == other) told_of ≡ true → is_late rule ≡ false
+pub at_once : (rule : ℕ) → list_any (λ other. rule == other) told_of ≡ true → is_late rule ≡ false
 at_once rule h = not_rough (is_late rule) (sym (one_of (λ r. not (is_late r)) rule told_of all_of_them h))
 
 -- likewise of three
-of_three : (P : ℕ → Type 0) (a b c rule : ℕ) → P a → P b → P c → (((rule == a) || (rule == b)) || (rule == c)) ≡ true
+pub of_three : (P : ℕ → Type 0) (a b c rule : ℕ) → P a → P b → P c → (((rule == a) || (rule == b)) || (rule == c)) ≡ true
     → P rule
 of_three P a b c rule pa pb pc = at ((rule == a) || (rule == b)) refl
   where
@@ -78,7 +78,7 @@ of_three P a b c rule pa pb pc = at ((rule == a) || (rule == b)) refl
     at false e h = subst P (sym (eqb-true rule c h)) pc
 
 module _ (p : List (List Cell)) (m : Moment) where
-  kept_by_all : (rule : ℕ) → ((voices : ℕ) → is_broken_then rule voices p m ≡ false)
+  pub kept_by_all : (rule : ℕ) → ((voices : ℕ) → is_broken_then rule voices p m ≡ false)
       → is_strictly_broken_then all_sets rule p m ≡ false
   kept_by_all rule kept =
       none_passes (λ voices. is_broken_then rule voices p m && is_strict_at rule m.exercise.now voices (length p))
@@ -210,13 +210,13 @@ module _ (p : List (List Cell)) (m : Moment) where
         ap found_in e ∙ left_out strict is_close rules_at_a_bar r (closeness_kept apart)
         ∙ at_a_bar before rules_at_a_bar refl
 
--- by the answers of the tests
-pub fair_by_tests : (p : List (List Cell)) (m : Moment) → IsAfter p m
-    → some_rough m.exercise.now (reverse p) m.column.now ≡ false → true
+-- by the answers of the three tests
+pub fair_by_tests : (p : List (List Cell)) (m : Moment) → IsAfter p m → true
+    ≡ not (some_rough m.exercise.now (reverse p) m.column.now) → true
     ≡ not (some_move_badly m.exercise.now m.before.now m.column.now) → true
     ≡ not (some_out_of_place m.exercise.now m.state.now.newest.len m.latest.pitches m.column.now) → IsFair p m
 fair_by_tests p m after smooth clear placed = record {
-  smooth = smooth;
+  smooth = not_rough (some_rough m.exercise.now (reverse p) m.column.now) smooth;
   clear = ap (λ b. some_move_badly m.exercise.now b m.column.now) (sym after.before)
       ∙ not_rough (some_move_badly m.exercise.now m.before.now m.column.now) clear;
   placed =

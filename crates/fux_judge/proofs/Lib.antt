@@ -5,6 +5,7 @@ pub mod ChargeLemmas
 pub mod CrateLemmas
 pub mod Ends
 pub mod Facts
+pub mod FairLemmas
 pub mod Grows
 pub mod KeptLemmas
 pub mod LateLemmas
@@ -24,6 +25,7 @@ pub mod RoughLemmas
 pub mod SetLemmas
 pub mod ShapeLemmas
 pub mod SmoothLemmas
+pub mod SoundLemmas
 pub mod StateLemmas
 pub mod StepLemmas
 pub mod StepPlaces

@@ -252,7 +252,7 @@ passes_within test x (y ∷ ys) here passes = at (y == x) refl here (λ h. passe
     at false e h more = later (test y) (more h)
 
 -- and one that passes for one of some numbers passes for one of any that have them all
-any_within : (test : ℕ → Bool) (few many : List ℕ) → list_all (λ x. list_any (λ y. y == x) many) few ≡ true
+pub any_within : (test : ℕ → Bool) (few many : List ℕ) → list_all (λ x. list_any (λ y. y == x) many) few ≡ true
     → list_any test few ≡ true → list_any test many ≡ true
 any_within test [] many within some = let both : false ≡ true = some in cc
 any_within test (x ∷ few) many within some =

@@ -14,17 +14,18 @@ use Rattle.fux_grid.specs.Menus.{IsInMenu}
 use Rattle.melody_rules.specs.Smooth.{some_rough}
 use Rattle.rule_law.specs.declared.table.Form.TheVariants.{OneVoice}
 use Rattle.rule_law.specs.Forms.{sets_of}
-use Rattle.rule_law.specs.Growth.{any_below, list_any-same}
-use Rattle.rule_law.specs.Law.{first_true, reading-at_end, second_true}
+use Rattle.rule_law.specs.Growth.{any_below}
+use Rattle.rule_law.specs.Law.{first_true, second_true}
 use Rattle.rule_law.specs.Prefixes.{GoesOn}
 use Rattle.rule_law.specs.Rulebooks.{IsAmong, newly_breaks}
 use Rattle.rhythm_cadence.specs.Book.{shape_rule}
 use Rattle.fux_judge.specs.declared.moment.Moment.{Moment}
-use Rattle.fux_judge.specs.Links.{breaks_between, breaks_strictly, is_of_neighbors}
+use Rattle.fux_judge.specs.Links.{breaks_strictly}
 use Rattle.fux_judge.specs.Moments.{IsAfter, is_strictly_broken_then}
 use Rattle.fux_judge.specs.Penalties.{is_strict_at, newly_broken, newly_broken_at}
-use Rattle.fux_judge.specs.Rules.{all_sets, breaks, is_broken, is_late, is_of_melody, is_read, rule_at, rules_read}
+use Rattle.fux_judge.specs.Rules.{all_sets, is_broken, is_late, is_of_melody, is_read, rule_at, rules_read}
 use Rattle.fux_judge.specs.Told.{first_rules, joint_rules, least_alone, least_newly_broken}
+use Rattle.fux_judge.proofs.AlwaysLemmas.{clashed, crossed, ended_apart, met}
 use Rattle.fux_judge.proofs.KeptLemmas.{melody_kept, menu_kept}
 use Rattle.fux_judge.proofs.StepPlaces.{newly_broken-at_once, newly_broken-late}
 
@@ -177,41 +178,30 @@ module _ (p : List (List Cell)) (m : Moment) (after : IsAfter p m) where
   abbrev alone : ℕ → Bool
   alone rule = breaks_strictly m.exercise.now m.state.now.newest.len None m.column.now rule
 
-  -- a rule that reads nothing before the column is broken after each prefix or none
-  broken_alone : (rule : ℕ) → is_of_neighbors (rule_at rule).kind ≡ true
-      → ((behind : List (List Cell)) (v : ℕ) → breaks rule m.exercise.now v (length p) behind m.column.now []
-      ≡ breaks rule m.exercise.now v (length p) [] m.column.now [])
-      → is_strictly_broken_then all_sets rule p m
-      ≡ breaks_strictly m.exercise.now m.state.now.newest.len None m.column.now rule
-  broken_alone rule kind reads =
-      let ex = m.exercise.now in
-      let col = m.column.now in
-      list_any-same (λ v. is_broken rule ex v (p ++ col ∷ []) (length p) && is_strict_at rule ex v (length p))
-      (λ v. breaks_between ex (length p) None col rule v && is_strict_at rule ex v (length p)) all_sets
-      (λ v. ap (λ b. b && is_strict_at rule ex v (length p))
-      (reading-at_end (breaks rule ex v) p col ∙ reads (reverse p) v
-      ∙ ap (λ b. b && breaks rule ex v (length p) [] col []) (sym kind)))
-      ∙ ap (λ n. breaks_strictly ex n None col rule) (sym after.state.newest.count)
-
+  -- what a column decides by itself is read at the moment
   crossed_alone : is_strictly_broken_then all_sets 10 p m
       ≡ breaks_strictly m.exercise.now m.state.now.newest.len None m.column.now 10
-  unfolding rule_at
-  crossed_alone = broken_alone 10 refl (λ behind v. refl)
+  crossed_alone =
+      crossed m.exercise.now p m.column.now
+      ∙ ap (λ n. breaks_strictly m.exercise.now n None m.column.now 10) (sym after.state.newest.count)
 
   met_alone : is_strictly_broken_then all_sets 11 p m
       ≡ breaks_strictly m.exercise.now m.state.now.newest.len None m.column.now 11
-  unfolding rule_at
-  met_alone = broken_alone 11 refl (λ behind v. refl)
+  met_alone =
+      met m.exercise.now p m.column.now
+      ∙ ap (λ n. breaks_strictly m.exercise.now n None m.column.now 11) (sym after.state.newest.count)
 
   ended_alone : is_strictly_broken_then all_sets 13 p m
       ≡ breaks_strictly m.exercise.now m.state.now.newest.len None m.column.now 13
-  unfolding rule_at
-  ended_alone = broken_alone 13 refl (λ behind v. refl)
+  ended_alone =
+      ended_apart m.exercise.now p m.column.now
+      ∙ ap (λ n. breaks_strictly m.exercise.now n None m.column.now 13) (sym after.state.newest.count)
 
   clashed_alone : is_strictly_broken_then all_sets 14 p m
       ≡ breaks_strictly m.exercise.now m.state.now.newest.len None m.column.now 14
-  unfolding rule_at
-  clashed_alone = broken_alone 14 refl (λ behind v. refl)
+  clashed_alone =
+      clashed m.exercise.now p m.column.now
+      ∙ ap (λ n. breaks_strictly m.exercise.now n None m.column.now 14) (sym after.state.newest.count)
 
   -- what is found of those that a column decides by itself is found at the moment
   found_alone : (rule : ℕ) → least_alone m.exercise.now m.state.now.newest.len m.column.now ≡ Some rule

@@ -1,6 +1,10 @@
 -- Rules that one test tells of for a whole column, and those that are left to read where it passes.
-use Rattle.std.specs.Prelude.{ℕ, ◌==◌, ◌||◌, not, Bool, List}
-use Rattle.std.specs.List.{filter}
+use Rattle.std.specs.Prelude.{ℕ, ◌==◌, ◌&&◌, ◌||◌, not, Bool, List, [], ◌∷◌, is_none}
+use Rattle.std.specs.List.{filter, list_any}
+use Rattle.fux_grid.specs.declared.cell.Cell.{Cell}
+use Rattle.fux_grid.specs.Cells.{cell_in}
+use Rattle.rule_law.specs.Nearby.{Pitches, pitch_at}
+use Rattle.rule_law.specs.Terms.{starts}
 use Rattle.fux_judge.specs.Rules.{is_of_melody, rules_at_once}
 
 -- the rules of motion that one test tells of, those of dissonance, and those of one free voice that
@@ -32,3 +36,11 @@ rules_at_a_bar = filter (λ rule. not (is_of_ending rule)) rules_at_the_end
 
 unfoldable pub rules_within_bars : List ℕ
 rules_within_bars = filter (λ rule. not (is_close rule)) rules_at_a_bar
+
+-- a voice's first note starts in a column
+abbrev pub begins_line : Pitches → List Cell → ℕ → Bool
+begins_line previous now v = starts (cell_in now v) && is_none (pitch_at previous v)
+
+-- so it does for some voice
+abbrev pub some_begins : Pitches → List Cell → Bool
+some_begins previous now = list_any (begins_line previous now) (0 ∷ 1 ∷ 2 ∷ 3 ∷ [])

@@ -1,14 +1,17 @@
 -- How a few voices make a column dead, or cost too much, whatever cells the others have.
-use Rattle.std.specs.Prelude.{◌≡◌, ◌<◌, ◌≤◌, ◌⊎◌, ℕ, ◌==◌, Bool, true, false, ◌&&◌, List, [], ◌∷◌, IsSomeAnd, IsTrue, Option, length, reverse, take}
+use Rattle.std.specs.Prelude.{◌≡◌, nat_lt, ◌||◌, ◌<◌, ◌≤◌, ◌⊎◌, ℕ, ◌==◌, Bool, true, false, ◌&&◌, List, [], ◌∷◌, IsSomeAnd, IsTrue, Option, length, reverse, take}
 use Rattle.std.specs.List.{list_any}
 use Rattle.fux_grid.specs.declared.cell.Cell.{Cell}
 use Rattle.fux_grid.specs.declared.exercise.Exercise.{Exercise}
-use Rattle.fux_grid.specs.Columns.{Columns}
+use Rattle.fux_grid.specs.Columns.{Columns, newest_column}
+use Rattle.fux_grid.specs.Menus.{IsInMenu}
 use Rattle.rule_law.specs.Voices.{is_below}
 use Rattle.melody_rules.specs.Smooth.{is_rough_at}
+use Rattle.motion_rules.specs.Rows.{move_in_parallel, outer_move_into_perfect}
 use Rattle.penalty_sheet.specs.declared.sheet.Sheet.{Sheet}
 use Rattle.fux_judge.specs.declared.moment.Moment.{Moment}
 use Rattle.fux_judge.specs.declared.state.State.{State}
+use Rattle.fux_judge.specs.Always.{IsSound}
 use Rattle.fux_judge.specs.Penalties.{newly_paid, settles_break}
 use Rattle.fux_judge.specs.Moments.{IsAfter}
 use Rattle.fux_judge.specs.States.{IsStateOf}
@@ -54,15 +57,48 @@ PrunesWithin n ex sheet state limit col =
     (p : Columns) → IsStateOf ex p state → (other : List Cell) → length other ≡ ex.voices → take n other ≡ take n col
     → IsPruned ex sheet p limit other
 
--- where nothing is relaxed, a voice breaks no rule of melody at the moment, after each prefix that
--- it may come after
+-- a voice breaks S16 or S17 with a lower one, if the exercise has it
+abbrev pub move_unfairly : Exercise → List Cell → List Cell → ℕ → ℕ → Bool
+move_unfairly ex before col lower voice =
+    nat_lt voice ex.voices
+    && (move_in_parallel before col lower voice || outer_move_into_perfect ex before col lower voice)
+
+-- a voice of a column keeps the rules of melody, and with each lower one S16 and S17
+pub record IsFairVoice (ex : Exercise) (p : List (List Cell)) (col : List Cell) (voice : ℕ) : Type 0 where
+  pub melody : is_rough_at ex (reverse p) col voice ≡ false
+  pub motion : (lower : ℕ) → lower < voice → move_unfairly ex (newest_column (reverse p)) col lower voice ≡ false
+
+-- where nothing is relaxed, it keeps the latter with a lower one at the moment, after each prefix
+-- that it may come after
+abbrev pub IsFairPairAt : ℕ → ℕ → Moment → Type 0
+IsFairPairAt lower voice m =
+    m.exercise.now.relax ≡ [] → (p : List (List Cell)) → IsAfter p m
+    → move_unfairly m.exercise.now (newest_column (reverse p)) m.column.now lower voice ≡ false
+
+-- so it keeps the rules of melody
 abbrev pub IsSmoothAt : ℕ → Moment → Type 0
 IsSmoothAt v m =
     m.exercise.now.relax ≡ [] → (p : List (List Cell)) → IsAfter p m
     → is_rough_at m.exercise.now (reverse p) m.column.now v ≡ false
 
--- where nothing is relaxed, none of the first voices of a column does, after whatever prefix the
--- state is of
-abbrev pub IsSmoothWithin : ℕ → Exercise → State → List Cell → Type 0
-IsSmoothWithin n ex state col =
-    ex.relax ≡ [] → (p : Columns) → IsStateOf ex p state → (v : ℕ) → v < n → is_rough_at ex (reverse p) col v ≡ false
+-- and all of them
+abbrev pub IsFairAt : ℕ → Moment → Type 0
+IsFairAt v m =
+    m.exercise.now.relax ≡ [] → (p : List (List Cell)) → IsAfter p m → IsFairVoice m.exercise.now p m.column.now v
+
+-- where nothing is relaxed, the first voices of a column do, after whatever prefix the state is of
+abbrev pub IsFairWithin : ℕ → Exercise → State → List Cell → Type 0
+IsFairWithin n ex state col =
+    ex.relax ≡ [] → (p : Columns) → IsStateOf ex p state → (v : ℕ) → v < n → IsFairVoice ex p col v
+
+-- what is told of a column behind a state: where nothing is relaxed its voices are fair, and it is
+-- sound
+pub record IsToldColumn (ex : Exercise) (state : State) (col : List Cell) : Type 0 where
+  pub fair : IsFairWithin 4 ex state col
+  pub sound : IsSound ex state.newest.len col
+
+-- and at the moment of a column of the menu
+pub record IsToldAt (m : Moment) : Type 0 where
+  pub fair : (v : ℕ) → v < 4 → IsFairAt v m
+  pub sound : IsSound m.exercise.now m.state.now.newest.len m.column.now
+  pub menu : IsInMenu m.exercise.now m.state.now.newest.len m.column.now

@@ -1,56 +1,89 @@
 //! Rules that a column keeps, as can be told for many of them at once.
 
-ghost use Rattle.std.specs.Prelude.{◌≡◌, ◌<◌, ◌&&◌, false, not, nat_lt, reverse, ℕ, IsTrue};
+ghost use Rattle.std.specs.Prelude.{◌≡◌, ◌&&◌, [], false, is_none, not, nat_lt, ℕ, IsTrue};
+ghost use Rattle.std.specs.Bool.{OnTrue};
 ghost use Rattle.std.specs.List.{list_all};
 ghost use Rattle.fux_grid.specs.Columns.{Columns};
-ghost use Rattle.fux_judge.specs.Rules.{is_late, rules_at_once};
-ghost use Rattle.fux_judge.specs.Moments.{IsReadable, IsAfter, breaks_one_of};
-ghost use Rattle.fux_judge.specs.Pruning.{IsSmoothAt};
-ghost use Rattle.melody_rules.specs.Smooth.{some_rough};
+ghost use Rattle.fux_judge.specs.Rules.{all_sets, is_late, rules_at_once};
+ghost use Rattle.fux_judge.specs.Moments.{IsReadable, IsAfter, breaks_one_of, is_strictly_broken_then};
+ghost use Rattle.fux_judge.specs.Kept.{begins_line, some_begins};
+ghost use Rattle.fux_judge.specs.Pruning.{IsToldAt};
 
 use crate::moment::Moment;
 use crate::numbers::{all_at_once, left_at_a_bar, left_at_the_end, left_within_bars};
+use crate::reading::is_strictly_broken_now;
 use dissonance_rules::are_apart;
+use fux_grid::cell_of;
 use melody_rules::are_smooth;
 use motion_rules::are_clear;
 use rhythm_cadence::{are_in_place, begins_last_bar};
-use rule_law::begins_bar;
+use rule_law::{begins_bar, starts};
 
-/// Whether the column breaks no rule of melody.
+/// Whether a voice's first note starts in the column.
 #[inline]
-fn is_smooth(m: &Moment<'_>) -> bool
-    ensures { (p : Columns) → IsAfter p m.now → IsTrue result → some_rough m.now.exercise.now
-        (reverse p) m.now.column.now ≡ false }
+fn begins_line(m: &Moment<'_>, v: usize) -> bool
+    ensures { result ≡ begins_line m.now.latest.pitches m.now.column.now v }
 {
-    are_smooth(m.exercise, &m.state.past.parts.first, m.column)
+    starts(cell_of(m.column, v)) && m.latest.of(v).is_none()
 }
 
-/// The same, which isn't asked where it is told, and nothing is relaxed.
+/// Whether no voice's first note starts in the column.
 #[inline]
-fn keeps_melody(told: bool, m: &Moment<'_>) -> bool
-    requires { IsTrue told → (v : ℕ) → v < 4 → IsSmoothAt v m.now }
-    ensures { (p : Columns) → IsAfter p m.now → IsTrue result → some_rough m.now.exercise.now
-        (reverse p) m.now.column.now ≡ false }
+fn begins_no_line(m: &Moment<'_>) -> bool
+    ensures { OnTrue result (some_begins m.now.latest.pitches m.now.column.now ≡ false) }
 {
-    if !told {
-        return is_smooth(m);
+    if begins_line(m, 0) {
+        return false;
     }
-    if !m.exercise.relax.as_slice().is_empty() {
-        return is_smooth(m);
+    if begins_line(m, 1) {
+        return false;
+    }
+    if begins_line(m, 2) {
+        return false;
+    }
+    if begins_line(m, 3) {
+        return false;
     }
     true
 }
 
-/// The rules that are left to read: the column keeps all others. It mostly passes the tests, and
-/// then few are left, or none. What is told of melody isn't asked.
-pub(crate) fn rules_left(m: &Moment<'_>, told: bool) -> &'static [u8]
+/// Whether the column keeps S12: where no voice's first note starts in it, nothing has to fit.
+#[inline]
+fn opens_well(m: &Moment<'_>) -> bool
+    requires { IsReadable m.now }
+    ensures { (p : Columns) → IsAfter p m.now → IsTrue result → is_strictly_broken_then all_sets 12
+        p m.now ≡ false }
+{
+    if begins_no_line(m) {
+        return true;
+    }
+    !is_strictly_broken_now(12, m)
+}
+
+/// The rules that are left to read of a column of which all but S12 is told: none, or all.
+fn left_of_told(m: &Moment<'_>) -> &'static [u8]
     requires readable { IsReadable m.now }
-    requires told { IsTrue told → (v : ℕ) → v < 4 → IsSmoothAt v m.now }
+    requires nothing { m.now.exercise.now.relax ≡ [] }
+    requires told { IsToldAt m.now }
     ensures numbers { IsTrue (list_all (λ rule. nat_lt rule 32 && not (is_late rule)) result.now) }
     ensures kept { (p : Columns) → IsAfter p m.now → (r : ℕ) → breaks_one_of result.now p m.now r
         ≡ breaks_one_of rules_at_once p m.now r }
 {
-    if !keeps_melody(told, m) {
+    if opens_well(m) {
+        return left_within_bars();
+    }
+    all_at_once()
+}
+
+/// The rules that are left to read by what tests tell. A column mostly passes them, and then few are
+/// left, or none.
+fn left_by_tests(m: &Moment<'_>) -> &'static [u8]
+    requires { IsReadable m.now }
+    ensures numbers { IsTrue (list_all (λ rule. nat_lt rule 32 && not (is_late rule)) result.now) }
+    ensures kept { (p : Columns) → IsAfter p m.now → (r : ℕ) → breaks_one_of result.now p m.now r
+        ≡ breaks_one_of rules_at_once p m.now r }
+{
+    if !are_smooth(m.exercise, &m.state.past.parts.first, m.column) {
         return all_at_once();
     }
     if !are_clear(m.exercise, m.before, m.column) {
@@ -69,4 +102,22 @@ pub(crate) fn rules_left(m: &Moment<'_>, told: bool) -> &'static [u8]
         return left_within_bars();
     }
     left_at_a_bar()
+}
+
+/// The rules that are left to read: the column keeps all others. What is told where nothing is
+/// relaxed isn't asked.
+pub(crate) fn rules_left(m: &Moment<'_>, told: bool) -> &'static [u8]
+    requires readable { IsReadable m.now }
+    requires told { IsTrue told → IsToldAt m.now }
+    ensures numbers { IsTrue (list_all (λ rule. nat_lt rule 32 && not (is_late rule)) result.now) }
+    ensures kept { (p : Columns) → IsAfter p m.now → (r : ℕ) → breaks_one_of result.now p m.now r
+        ≡ breaks_one_of rules_at_once p m.now r }
+{
+    if !told {
+        return left_by_tests(m);
+    }
+    if !m.exercise.relax.as_slice().is_empty() {
+        return left_by_tests(m);
+    }
+    left_of_told(m)
 }

@@ -1,14 +1,14 @@
 //! Columns that are dead, or cost too much, by the cells of a few voices.
 
-ghost use Rattle.std.specs.Prelude.{◌≡◌, ◌≤◌, ◌<◌, ◌+◌, ◌-◌, Some, IsSomeAnd, IsTrue, IfNone, IfSome, length};
+ghost use Rattle.std.specs.Prelude.{◌≡◌, ◌≤◌, ◌<◌, ◌+◌, ◌-◌, ℕ, Some, IsSomeAnd, IsTrue, IfNone, IfSome, length};
 ghost use Rattle.std.specs.Bool.{OnTrue, OnFalse};
 ghost use Rattle.std.specs.List.{list_all};
 ghost use Rattle.fux_grid.specs.Columns.{Columns};
 ghost use Rattle.fux_grid.specs.Exercises.{IsValid, columns_in};
-ghost use Rattle.rule_law.specs.Voices.{voice_of as one_voice};
+ghost use Rattle.rule_law.specs.Voices.{pair_of as both_voices, voice_of as one_voice};
 ghost use Rattle.fux_judge.specs.Charges.{voice_charge};
 ghost use Rattle.fux_judge.specs.Moments.{IsAfter, IsReadable, pairs_then};
-ghost use Rattle.fux_judge.specs.Pruning.{IsDeadBy, IsDeadWithin, IsSmoothAt, IsSmoothWithin, PrunesWithin, is_set_below, reads_below};
+ghost use Rattle.fux_judge.specs.Pruning.{IsDeadBy, IsDeadWithin, IsFairAt, IsFairPairAt, IsFairWithin, IsSmoothAt, PrunesWithin, is_set_below, reads_below};
 
 use crate::moment::Moment;
 use crate::reading::is_strictly_broken;
@@ -19,22 +19,10 @@ use fux_grid::{Column, Exercise, VoiceSet, cell_of};
 use melody_rules::is_smooth_in;
 use penalty_sheet::Sheet;
 use rhythm_cadence::leaves_last_shape;
-use rule_law::{is_quiet, pair_of, sound_perfect, starts};
+use rule_law::{is_quiet, sound_perfect, starts};
 
 /// The rules of one voice that starts a note.
 const WHERE_IT_STARTS: [u8; 7] = [4, 5, 26, 6, 7, 8, 9];
-
-/// The rules of two voices that both start a note.
-const WHERE_BOTH_START: [u8; 2] = [16, 17];
-
-/// The sets of a voice with each lower one, for each voice.
-const WITH_FIRST: [u8; 0] = [];
-
-const WITH_SECOND: [u8; 1] = [3];
-
-const WITH_THIRD: [u8; 2] = [5, 6];
-
-const WITH_FOURTH: [u8; 3] = [9, 10, 12];
 
 /// The set of a voice alone.
 #[inline]
@@ -51,17 +39,21 @@ fn alone(voice: usize) -> VoiceSet
     }
 }
 
-/// The sets of a voice with each lower one.
+/// The set of two voices.
 #[inline]
-fn pairs_with(voice: usize) -> &'static [u8]
-    requires { voice < 4 }
-    ensures { IsTrue (list_all (is_set_below (voice + 1)) result.now) }
+fn both(lower: usize, upper: usize) -> VoiceSet
+    requires order { lower < upper }
+    requires upper { upper < 4 }
+    ensures pair { both_voices result.bits ≡ Some (lower, upper) }
+    ensures below { IsTrue (is_set_below (upper + 1) result.bits) }
 {
-    match voice {
-        0 => &WITH_FIRST,
-        1 => &WITH_SECOND,
-        2 => &WITH_THIRD,
-        _ => &WITH_FOURTH,
+    match (lower, upper) {
+        (0, 1) => VoiceSet { bits: 3 },
+        (0, 2) => VoiceSet { bits: 5 },
+        (1, 2) => VoiceSet { bits: 6 },
+        (0, 3) => VoiceSet { bits: 9 },
+        (1, 3) => VoiceSet { bits: 10 },
+        _ => VoiceSet { bits: 12 },
     }
 }
 
@@ -97,28 +89,52 @@ fn breaks_alone(voice: u8, voices: VoiceSet, m: &Moment<'_>) -> bool
     breaks_one(&WHERE_IT_STARTS, voices, m)
 }
 
-/// Whether two voices break a rule strictly by moving together, which takes a perfect interval in
-/// which both start.
-fn breaks_together(lower: u8, upper: u8, voices: VoiceSet, m: &Moment<'_>) -> bool
+/// Whether two voices break S16 or S17 strictly.
+fn breaks_motion(lower: usize, upper: usize, m: &Moment<'_>) -> bool
+    requires order { lower < upper }
+    requires upper { upper < 4 }
     requires readable { IsReadable m.now }
-    ensures { OnTrue result (IsDeadBy voices.bits m.now) }
+    ensures dead { OnTrue result (IsDeadWithin (upper + 1) m.now) }
+    ensures fair { OnFalse result (IsFairPairAt lower upper m.now) }
 {
-    let (lower, upper) = (lower as usize, upper as usize);
-    starts(cell_of(m.column, lower))
-        && starts(cell_of(m.column, upper))
-        && sound_perfect(m.column, lower, upper)
-        && breaks_one(&WHERE_BOTH_START, voices, m)
+    let voices = both(lower, upper);
+    if is_strictly_broken(16, voices, m) {
+        return true;
+    }
+    is_strictly_broken(17, voices, m)
 }
 
-/// Whether a set of two voices breaks a rule strictly.
-fn breaks_by(voices: VoiceSet, m: &Moment<'_>) -> bool
+/// Whether two voices break a rule strictly by moving together, which takes a perfect interval in
+/// which both start.
+fn breaks_together(lower: usize, upper: usize, m: &Moment<'_>) -> bool
+    requires order { lower < upper }
+    requires upper { upper < 4 }
     requires readable { IsReadable m.now }
-    ensures { OnTrue result (IsDeadBy voices.bits m.now) }
+    ensures dead { OnTrue result (IsDeadWithin (upper + 1) m.now) }
+    ensures fair { OnFalse result (IsFairPairAt lower upper m.now) }
 {
-    let Some((lower, upper)) = pair_of(voices) else {
+    if !starts(cell_of(m.column, lower)) {
         return false;
-    };
-    breaks_together(lower, upper, voices, m)
+    }
+    if !sound_perfect(m.column, lower, upper) {
+        return false;
+    }
+    breaks_motion(lower, upper, m)
+}
+
+/// Whether a voice that starts a note breaks a rule strictly by moving with a lower one.
+fn breaks_with_lower(voice: usize, m: &Moment<'_>) -> bool
+    requires voice { voice < 4 }
+    requires readable { IsReadable m.now }
+    ensures dead { OnTrue result (IsDeadWithin (voice + 1) m.now) }
+    ensures fair { OnFalse result ((lower : ℕ) → lower < voice → IsFairPairAt lower voice m.now) }
+{
+    for lower in 0..voice {
+        if breaks_together(lower, voice, m) {
+            return true;
+        }
+    }
+    false
 }
 
 /// Whether a voice leaves the last of the shapes that it may still have in its bar.
@@ -146,7 +162,7 @@ fn breaks_with(voice: usize, m: &Moment<'_>) -> bool
     requires voice { voice < 4 }
     requires readable { IsReadable m.now }
     ensures dead { OnTrue result (IsDeadWithin (voice + 1) m.now) }
-    ensures smooth { OnFalse result (IsSmoothAt voice m.now) }
+    ensures fair { OnFalse result (IsFairAt voice m.now) }
 {
     if !starts(cell_of(m.column, voice)) {
         return false;
@@ -157,12 +173,7 @@ fn breaks_with(voice: usize, m: &Moment<'_>) -> bool
     if breaks_alone(voice as u8, alone(voice), m) {
         return true;
     }
-    for bits in pairs_with(voice) {
-        if breaks_by(VoiceSet { bits: *bits }, m) {
-            return true;
-        }
-    }
-    false
+    breaks_with_lower(voice, m)
 }
 
 /// The same of a voice that wasn't tried.
@@ -171,7 +182,7 @@ fn breaks_untried(voice: usize, tried: usize, m: &Moment<'_>) -> bool
     requires voice { voice < 4 }
     requires readable { IsReadable m.now }
     ensures dead { OnTrue result (IsDeadWithin (voice + 1) m.now) }
-    ensures smooth { OnFalse result (tried ≤ voice → IsSmoothAt voice m.now) }
+    ensures fair { OnFalse result (tried ≤ voice → IsFairAt voice m.now) }
 {
     if voice < tried {
         return false;
@@ -223,8 +234,8 @@ fn costs_too_much(limit: Option<u64>, least: u64, sheet: &Sheet, m: &Moment<'_>)
 /// again, since `is_always_dead` tells of it. So many of the lowest voices as have been tried are
 /// only asked what they cost: whoever has asked them of an earlier column with the same cells
 /// spares the question. Whatever the number is, what is told of a column that is pruned holds; and
-/// where nothing is relaxed and the tried voices keep the rules of melody, so do those below the
-/// last one that prunes, and all where none does. It takes no memory.
+/// where nothing is relaxed and the tried voices keep the rules of melody, and S16 and S17 with lower
+/// ones, so do those below the last one that prunes, and all where none does. It takes no memory.
 pub fn pruned_within(
     ex: &Exercise,
     sheet: &Sheet,
@@ -240,10 +251,10 @@ pub fn pruned_within(
     ensures few { IfSome result (λ n. n ≤ ex.now.voices) }
     ensures pruned { IfSome result (λ n. PrunesWithin n ex.now sheet.now state.now limit
         col.now.items) }
-    ensures sound { IsSmoothWithin tried ex.now state.now col.now.items
-        → IfSome result (λ n. IsSmoothWithin (n - 1) ex.now state.now col.now.items) }
-    ensures smooth { IsSmoothWithin tried ex.now state.now col.now.items
-        → IfNone result (IsSmoothWithin 4 ex.now state.now col.now.items) }
+    ensures sound { IsFairWithin tried ex.now state.now col.now.items
+        → IfSome result (λ n. IsFairWithin (n - 1) ex.now state.now col.now.items) }
+    ensures fair { IsFairWithin tried ex.now state.now col.now.items
+        → IfNone result (IsFairWithin 4 ex.now state.now col.now.items) }
 {
     if is_quiet(state.newest.len, col.as_slice()) {
         return None;

@@ -3,12 +3,13 @@
 ghost use Rattle.std.specs.Prelude.{◌≡◌, ◌≤◌, ◌<◌, ◌+◌, true, false, IfNone, IfSome, IsTrue, length};
 ghost use Rattle.std.specs.List.{list_any};
 ghost use Rattle.fux_grid.specs.Exercises.{IsValid, columns_in};
+ghost use Rattle.fux_grid.specs.Menus.{IsInMenu};
 ghost use Rattle.rule_law.specs.Voices.{has_rule};
 ghost use Rattle.fux_judge.specs.Gauges.{least_of};
 ghost use Rattle.fux_judge.specs.Late.{HaveNoPlace};
 ghost use Rattle.fux_judge.specs.Rules.{rules_at_once};
 ghost use Rattle.fux_judge.specs.Penalties.{newly_paid, settles_break};
-ghost use Rattle.fux_judge.specs.Pruning.{IsSmoothWithin};
+ghost use Rattle.fux_judge.specs.Pruning.{IsToldColumn};
 ghost use Rattle.fux_judge.specs.States.{IsStateOf};
 ghost use Rattle.fux_judge.specs.Verdicts.{GoingOn, Grown, GrownPrefix, PaysMore};
 
@@ -41,8 +42,8 @@ pub struct Price {
 
 /// What a column that settles no strict break costs; none where it settles one, and then no more is
 /// read than tells so: nothing of late rules that are known to have no place there, and where it is
-/// told that no rule of melody is broken, and nothing is relaxed, none of melody. The state of the
-/// longer prefix is written into the place that is given.
+/// told of a column of the menu what it keeps, and nothing is relaxed, of those settled at once S12
+/// alone. The state of the longer prefix is written into the place that is given.
 pub fn step_unbroken(
     ex: &Exercise,
     sheet: &Sheet,
@@ -56,7 +57,8 @@ pub fn step_unbroken(
     requires room { state.now.newest.len < columns_in ex.now }
     requires full { length col.now.items ≡ ex.now.voices }
     requires idle { HaveNoPlace ex.now state.now.newest.len idle.bits }
-    requires told { IsTrue told → IsSmoothWithin 4 ex.now state.now col.now.items }
+    requires told { IsTrue told → IsToldColumn ex.now state.now col.now.items }
+    requires menu { IsTrue told → IsInMenu ex.now state.now.newest.len col.now.items }
     ensures state { IfSome result (λ _. Grown ex.now state.now col.now.items
         (λ longer. IsStateOf ex.now longer next.new)) }
 

@@ -9,7 +9,7 @@ ghost use Rattle.fux_judge.specs.Gauges.{least_of};
 ghost use Rattle.fux_judge.specs.Rules.{all_sets, is_late, rules_at_once, rules_read};
 ghost use Rattle.fux_judge.specs.Penalties.{newly_paid, paid};
 ghost use Rattle.fux_judge.specs.Moments.{IsReadable, IsAfter, breaks_one_of, paid_at_once, prices_then};
-ghost use Rattle.fux_judge.specs.Pruning.{IsSmoothAt};
+ghost use Rattle.fux_judge.specs.Pruning.{IsToldAt};
 ghost use Rattle.fux_judge.specs.States.{IsStateOf};
 ghost use Rattle.fux_judge.specs.Verdicts.{GoingOn, Grown, GrownPrefix, HasBroken, PaysMore};
 
@@ -112,10 +112,10 @@ pub(crate) fn moment_of<'a>(ex: &'a Exercise<'a>, state: &'a State, col: &'a Col
 }
 
 /// The rules settled at once that the column breaks strictly, and what it costs of them and of such
-/// tolls. Where nothing begins, nothing is read, and what is told of melody isn't asked.
+/// tolls. Where nothing begins, nothing is read, and what is told isn't asked.
 pub(crate) fn readings(sheet: &Sheet, m: &Moment<'_>, told: bool) -> (RuleSet, u64)
     requires readable { IsReadable m.now }
-    requires told { IsTrue told → (v : ℕ) → v < 4 → IsSmoothAt v m.now }
+    requires told { IsTrue told → IsToldAt m.now }
     ensures broken { (p : List (List ACell)) → IsAfter p m.now → (r : ℕ)
         → has_rule result.0.bits r ≡ breaks_one_of rules_at_once p m.now r }
     ensures paid { (p : List (List ACell)) → IsAfter p m.now → result.1 ≡ paid_at_once sheet.now p

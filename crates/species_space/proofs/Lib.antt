@@ -1,6 +1,7 @@
 pub mod Alive
 pub mod Best
 pub mod Children
+pub mod Fair
 pub mod FloorSteps
 pub mod Live
 pub mod MenuLemmas
@@ -8,6 +9,5 @@ pub mod NamingLemmas
 pub mod Passing
 pub mod PathSteps
 pub mod ScoreSteps
-pub mod Smooth
 pub mod Trees
 pub mod WalkSteps

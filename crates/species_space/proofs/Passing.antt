@@ -14,6 +14,7 @@ use Rattle.fux_grid.specs.Menus.{IsAscending}
 use Rattle.fux_grid.proofs.Combinations.{AllPairs-place, IsColumnBefore}
 use Rattle.fux_grid.proofs.OrderLemmas.{column_order-itself}
 use Rattle.rule_law.specs.Law.{below_from_test}
+use Rattle.fux_judge.specs.Always.{IsSound}
 use Rattle.species_space.specs.Blocks.{AreAlwaysDead, HasOneWidth, IsBlockEnd, IsNext, IsOnlyHolds, IsWithoutHolds, KeepsCell, SkipDead, same_cell}
 
 -- ---- blocks
@@ -192,7 +193,7 @@ agree_more menu v size k old block end kept ends fewer in_block onward within be
     (λ j le b. one_cell menu v size j k kept (omega (arith, b, within)) (omega (arith, onward, within))
     (ends.one_block j le (omega (arith, b, in_block))))
 
--- ---- columns that are dead after every prefix
+-- ---- columns that are dead after every prefix, and sound ones
 
 -- what holds of the numbers of a list, and of one number at each later place, holds of all once
 -- that number is put behind them
@@ -215,3 +216,17 @@ skip_more ex i menu numbers count number skip small dead = record {
   dead = filled (λ k to. AreAlwaysDead ex i menu k to) numbers count number skip.dead
       (λ k le j from lt. dead j (omega (arith, le, from)) lt);
 }
+
+-- of the columns that have a number, those that have no later one are sound
+abbrev pub AreSoundSoFar : Exercise → ℕ → List (List Cell) → List ℕ → Type 0
+AreSoundSoFar ex i menu numbers =
+    (j : ℕ) → j < length numbers → slice_index_or numbers j 0 ≤ j → IsSound ex i (slice_index_or menu j [])
+
+pub sound_more : (ex : Exercise) (i : ℕ) (menu : List (List Cell)) (numbers : List ℕ) (count number n : ℕ)
+    → AreSoundSoFar ex i menu numbers
+    → ((j : ℕ) → length numbers ≤ j → j < n → number ≤ j → IsSound ex i (slice_index_or menu j []))
+    → length (numbers ++ replicate count number) ≤ n
+    → AreSoundSoFar ex i menu (numbers ++ replicate count number)
+sound_more ex i menu numbers count number n old new few j lt le =
+    filled (λ k to. k < n → to ≤ k → IsSound ex i (slice_index_or menu k [])) numbers count number
+    (λ k b small own. old k b own) (λ k from small own. new k from small own) j lt (omega (arith, lt, few)) le

@@ -8,7 +8,7 @@ use Rattle.fux_grid.specs.Cells.{cell_in, is_hold}
 use Rattle.fux_grid.specs.Columns.{ColumnFollows}
 use Rattle.fux_grid.specs.Grid.{items_of}
 use Rattle.fux_grid.specs.Menus.{IsAscending}
-use Rattle.fux_judge.specs.Always.{IsAlwaysDead}
+use Rattle.fux_judge.specs.Always.{IsAlwaysDead, IsSound}
 use Rattle.species_space.specs.declared.blocks.Blocks.{Blocks}
 use Rattle.species_space.specs.declared.blocks.MenuView.{MenuView}
 
@@ -102,6 +102,19 @@ AreWithin numbers most = (k : ℕ) → k < length numbers → slice_index_or num
 pub record SkipDead (ex : Exercise) (i : ℕ) (menu : List (List Cell)) (numbers : List ℕ) : Type 0 where
   pub within : AreWithin numbers (length menu)
   pub dead : (k : ℕ) → k < length numbers → AreAlwaysDead ex i menu k (slice_index_or numbers k 0)
+
+-- at this place a list has no later number
+abbrev pub IsUnskipped : List ℕ → ℕ → Type 0
+IsUnskipped numbers k = k < length numbers → slice_index_or numbers k 0 ≤ k
+
+-- and each column that has no later number is sound
+pub record AreUndead (ex : Exercise) (i : ℕ) (menu : List (List Cell)) (numbers : List ℕ) : Type 0 where
+  pub skip : SkipDead ex i menu numbers
+  pub sound : (k : ℕ) → k < length menu → IsUnskipped numbers k → IsSound ex i (slice_index_or menu k [])
+
+-- all columns of a menu are sound
+abbrev pub AreSound : Exercise → ℕ → List (List Cell) → Type 0
+AreSound ex i menu = (k : ℕ) → k < length menu → IsSound ex i (slice_index_or menu k [])
 
 -- a column that doesn't follow, or is dead after every prefix
 abbrev pub StraysOrDies : Exercise → ℕ → List Cell → List Cell → Type 0

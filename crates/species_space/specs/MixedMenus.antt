@@ -7,7 +7,7 @@ use Rattle.fux_grid.specs.Grid.{items_of}
 use Rattle.fux_grid.specs.Menus.{menu_of}
 use Rattle.fux_judge.specs.Late.{HaveNoPlace}
 use Rattle.floor_tables.specs.Tables.{AreNarrow}
-use Rattle.species_space.specs.Blocks.{AreBlocksOf, SkipDead}
+use Rattle.species_space.specs.Blocks.{AreBlocksOf, AreUndead}
 use Rattle.species_space.specs.declared.menus.Menu.{Menu}
 use Rattle.species_space.specs.declared.menus.Menus.{Menus}
 use Rattle.species_space.specs.declared.menus.PlaceMenu.{PlaceMenu}
@@ -22,7 +22,7 @@ pub record IsMenuOf (columns : List (List Cell)) (menu : Menu) : Type 0 where
 pub record IsPlaceMenu (ex : Exercise) (menus : List Menu) (i : ℕ) (place : PlaceMenu) : Type 0 where
   pub there : place.menu < length menus
   pub menu : (d : Menu) → IsMenuOf (menu_of ex i) (slice_index_or menus place.menu d)
-  pub skip : SkipDead ex i (menu_of ex i) place.undead.items
+  pub skip : AreUndead ex i (menu_of ex i) place.undead.items
   pub idle : HaveNoPlace ex i place.idle.bits
 
 -- the same of each of the first places

@@ -7,7 +7,7 @@ use Rattle.fux_grid.specs.Menus.{menu_of}
 use Rattle.penalty_sheet.specs.declared.sheet.Sheet.{Sheet}
 use Rattle.fux_judge.specs.Gauges.{least_of}
 use Rattle.fux_judge.specs.Penalties.{paid}
-use Rattle.fux_judge.specs.Pruning.{IsSmoothWithin}
+use Rattle.fux_judge.specs.Pruning.{IsFairWithin, IsToldColumn}
 use Rattle.fux_judge.specs.States.{IsStateOf}
 use Rattle.species_space.specs.Blocks.{columns_seen}
 use Rattle.species_space.specs.declared.blocks.MenuView.{MenuView}
@@ -39,11 +39,15 @@ abbrev pub ComesBefore : Exercise → Sheet → Node → List Cell → Type 0
 ComesBefore ex sheet node before =
     (path : List ℕ) → IsNodeOf ex sheet node path → before ≡ newest_column (reverse (prefix_at ex path))
 
--- what is told of the child of a number: where nothing is relaxed, its column breaks no rule of
--- melody behind the node's prefix
+-- what is told of the child of a number: its column is sound, and where nothing is relaxed it keeps
+-- the rules of melody, S16 and S17 behind the node's prefix
 abbrev pub IsTold : Exercise → Node → ℕ → Type 0
-IsTold ex node k = IsSmoothWithin 4 ex node.state (slice_index_or (menu_of ex node.state.newest.len) k [])
+IsTold ex node k = IsToldColumn ex node.state (slice_index_or (menu_of ex node.state.newest.len) k [])
 
--- so it is of the first cells of the column of a number in a menu
-abbrev pub IsSmoothIn : ℕ → Exercise → Node → MenuView → ℕ → Type 0
-IsSmoothIn n ex node menu k = IsSmoothWithin n ex node.state (slice_index_or (columns_seen menu) k [])
+-- the same of the column of a number in a menu
+abbrev pub IsToldIn : Exercise → Node → MenuView → ℕ → Type 0
+IsToldIn ex node menu k = IsToldColumn ex node.state (slice_index_or (columns_seen menu) k [])
+
+-- its first cells keep these rules
+abbrev pub IsFairIn : ℕ → Exercise → Node → MenuView → ℕ → Type 0
+IsFairIn n ex node menu k = IsFairWithin n ex node.state (slice_index_or (columns_seen menu) k [])

@@ -6,15 +6,15 @@ use Rattle.fux_grid.specs.Menus.{menu_of}
 use Rattle.fux_judge.specs.Late.{HaveNoPlace}
 use Rattle.floor_tables.specs.Tables.{AreNarrow}
 pub use Rattle.floor_tables.specs.Tables.{Task}
-use Rattle.species_space.specs.Blocks.{AreBlocksOf, IsCut, SkipDead, columns_seen}
+use Rattle.species_space.specs.Blocks.{AreBlocksOf, AreUndead, IsCut, columns_seen}
 use Rattle.species_space.specs.declared.blocks.BlockMenu.{BlockMenu}
 use Rattle.species_space.specs.declared.blocks.MenuView.{MenuView}
 
 -- what is known of the menu of a place: its blocks, of its columns how many are dead after every
--- prefix from them on, and late rules of which its column settles nothing
+-- prefix from them on and which are sound, and late rules of which its column settles nothing
 pub record IsBlockMenuOf (ex : Exercise) (i : ℕ) (menu : BlockMenu) : Type 0 where
   pub blocks : AreBlocksOf (menu_of ex i) menu.blocks
-  pub skip : SkipDead ex i (menu_of ex i) menu.undead.items
+  pub skip : AreUndead ex i (menu_of ex i) menu.undead.items
   pub idle : HaveNoPlace ex i menu.idle.bits
 
 -- the same of each of the first places
@@ -25,7 +25,7 @@ AreMenus ex menus = (i : ℕ) (d : BlockMenu) → i < length menus → IsBlockMe
 pub record IsViewOf (ex : Exercise) (i : ℕ) (menu : MenuView) : Type 0 where
   pub columns : columns_seen menu ≡ menu_of ex i
   pub cut : IsCut menu
-  pub skip : SkipDead ex i (columns_seen menu) menu.undead.now
+  pub skip : AreUndead ex i (columns_seen menu) menu.undead.now
 
 -- a valid exercise whose menus aren't too wide, with what is known of all of them
 pub record IsReady (ex : Exercise) (menus : List BlockMenu) : Type 0 where

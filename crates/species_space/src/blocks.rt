@@ -6,6 +6,7 @@ ghost use Rattle.fux_grid.specs.Cells.{cell_follows, cell_in};
 ghost use Rattle.fux_grid.specs.Columns.{ColumnFollows};
 ghost use Rattle.fux_grid.specs.Grid.{items_of};
 ghost use Rattle.fux_grid.specs.Menus.{IsAscending};
+ghost use Rattle.rule_law.specs.Bars.{begins_bar};
 ghost use Rattle.species_space.specs.Blocks.{Agree, AreAlike, AreBlocksOf, HasOneWidth, IsNumberAt, IsBlockEnd, IsCut, IsHeldNext, IsNext, IsOnlyHolds, IsWithoutHolds, KeepsCell, columns_seen, same_cell};
 
 use fux_grid::{Cell, Column, cell_of, cells_follow};
@@ -95,7 +96,9 @@ impl<'a> MenuView<'a> {
     /// The number of the first column, from this one on, that isn't dead after every prefix.
     #[inline]
     pub(crate) fn undead_from(&self, k: usize) -> usize
-        ensures { k < result → IsNumberAt self.now.undead.now k result }
+        ensures later { k < result → IsNumberAt self.now.undead.now k result }
+        ensures here { k < length self.now.undead.now → slice_index_or self.now.undead.now k 0
+            ≡ result }
     {
         if k < self.undead.len() {
             self.undead[k] as usize
@@ -158,7 +161,8 @@ impl<'a> MenuView<'a> {
     /// Whether this column, in a menu of holds, may follow at column `i`, where no bar begins.
     #[inline]
     pub(crate) fn goes_on(&self, i: usize, before: &[Cell], k: usize) -> bool
-        ensures { IsTrue result → IsHeldNext self.now before.now k }
+        ensures held { IsTrue result → IsHeldNext self.now before.now k }
+        ensures inner { IsTrue result → begins_bar i ≡ false }
     {
         if begins_bar(i) {
             return false;

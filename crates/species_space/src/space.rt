@@ -4,7 +4,8 @@ ghost use Rattle.std.specs.Prelude.{◌≡◌, ◌<◌, ◌≤◌, ◌+◌, ◌^
 ghost use Rattle.fux_grid.specs.Exercises.{IsValid, columns_in};
 ghost use Rattle.fux_grid.specs.Grid.{items_of};
 ghost use Rattle.fux_grid.specs.Menus.{menu_of};
-ghost use Rattle.species_space.specs.Blocks.{AreBlocksOf, SkipDead};
+ghost use Rattle.std.specs.Bool.{OnFalse};
+ghost use Rattle.species_space.specs.Blocks.{AreBlocksOf, AreSound, AreUndead};
 ghost use Rattle.floor_tables.specs.Tables.{AreNarrow, IsRest, TellsWidth};
 ghost use Rattle.fux_judge.specs.Late.{HaveNoPlace};
 ghost use Rattle.species_space.specs.Grows.{paths_grow};
@@ -106,7 +107,7 @@ impl<'a> SpeciesSpace<'a> {
     }
 
     /// The menu of column i.
-    pub(crate) fn menu(&self, i: usize) -> MenuView<'_>
+    pub fn menu(&self, i: usize) -> MenuView<'_>
         requires { i < columns_in self.now.exercise }
         ensures { IsViewOf self.now.exercise i result }
     {
@@ -386,14 +387,14 @@ fn child_again(
     child.paid + least + rest
 }
 
-/// Whether a column of a menu is dead after every prefix. No answer depends on it: it spares
-/// memory.
+/// Whether a column of a menu is dead after every prefix. Where none is, all are sound.
 fn some_are_dead(exercise: &Exercise, i: usize, columns: &[Column]) -> bool
     requires valid { IsValid exercise.now }
     requires place { i < columns_in exercise.now }
+    ensures { OnFalse result (AreSound exercise.now i (items_of columns.now)) }
 {
-    for column in columns {
-        if is_always_dead(exercise, i, column) {
+    for k in 0..columns.len() {
+        if is_always_dead(exercise, i, column_at(columns, k)) {
             return true;
         }
     }
@@ -401,7 +402,8 @@ fn some_are_dead(exercise: &Exercise, i: usize, columns: &[Column]) -> bool
 }
 
 /// For each column of a menu the number of the first one, from it on, that isn't dead after every
-/// prefix; the menu's length where there is none. Where no column is dead they are all left out.
+/// prefix, and so is sound; the menu's length where there is none. Where no column is dead they are
+/// all left out.
 pub fn undead_numbers(
     alloc: Global,
     exercise: &Exercise,
@@ -411,7 +413,7 @@ pub fn undead_numbers(
     requires valid { IsValid exercise.now }
     requires place { i < columns_in exercise.now }
     requires few { length columns.now ≤ 8192 }
-    ensures { IfOk result (λ numbers. SkipDead exercise.now i (items_of columns.now)
+    ensures { IfOk result (λ numbers. AreUndead exercise.now i (items_of columns.now)
         numbers.items) }
 {
     if !some_are_dead(exercise, i, columns) {

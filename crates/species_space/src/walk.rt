@@ -1,12 +1,13 @@
 //! A walk over the columns of a menu that passes over the dead ones, and over those that are no
 //! better than the best leaf.
 
-ghost use Rattle.std.specs.Prelude.{◌≡◌, ◌<◌, ◌≤◌, ◌+◌, ◌^◌, ℕ, Bool, [], IfNone, IfSome, IsSomeAnd, length, slice_index_or};
+ghost use Rattle.std.specs.Prelude.{◌≡◌, ◌<◌, ◌≤◌, ◌+◌, ◌^◌, ℕ, Bool, false, [], IfNone, IfSome, IsSomeAnd, length, slice_index_or};
 ghost use Rattle.std.specs.Bool.{OnFalse};
 ghost use Rattle.fux_grid.specs.Exercises.{IsValid, columns_in};
 ghost use Rattle.fux_grid.specs.Menus.{menu_of};
-ghost use Rattle.species_space.specs.Blocks.{AreAlike, AreWithin, IsCut, IsHeldNext, PassesDead, columns_seen};
-ghost use Rattle.species_space.specs.Nodes.{ComesBefore, HasNoBetter, IsNodeOf, IsSmoothIn, PassesOver};
+ghost use Rattle.rule_law.specs.Bars.{begins_bar};
+ghost use Rattle.species_space.specs.Blocks.{AreAlike, AreWithin, IsCut, IsHeldNext, IsUnskipped, PassesDead, columns_seen};
+ghost use Rattle.species_space.specs.Nodes.{ComesBefore, HasNoBetter, IsNodeOf, IsFairIn, IsToldIn, PassesOver};
 ghost use Rattle.species_space.specs.Task.{IsViewOf, Task};
 ghost use Rattle.tree_search.specs.Space.{IsInner, IsToldBefore};
 
@@ -26,6 +27,8 @@ pub fn next_choice(menu: &MenuView<'_>, before: &[Cell], from: usize, hint: usiz
     ensures onward { from ≤ result }
     ensures within { result ≤ length (columns_seen menu.now) }
     ensures passed { PassesDead menu.now before.now from result }
+    ensures unskipped { result < length (columns_seen menu.now) → IsUnskipped menu.now.undead.now
+        result }
 {
     let mut k = menu.next_that_follows(before, from, hint);
     while k < menu.len() {
@@ -127,13 +130,13 @@ fn passed_over<R: Rests>(
     requires node { IsInner (IsNodeOf exercise.now sheet.now node.now) (columns_in exercise.now) }
     requires menu { IsViewOf exercise.now node.now.state.newest.len menu.now }
     requires within { k < length (columns_seen menu.now) }
-    requires tried { IsSmoothIn tried exercise.now node.now menu.now k }
+    requires tried { IsFairIn tried exercise.now node.now menu.now k }
     ensures onward { IfSome result (λ end. k < end.0) }
     ensures within { IfSome result (λ end. end.0 ≤ length (columns_seen menu.now)) }
     ensures passed { IfSome result (λ end. PassesOver R.chained exercise.now sheet.now node.now best
         k end.0) }
-    ensures sound { IfSome result (λ end. IsSmoothIn end.1 exercise.now node.now menu.now k) }
-    ensures smooth { IfNone result (IsSmoothIn 4 exercise.now node.now menu.now k) }
+    ensures sound { IfSome result (λ end. IsFairIn end.1 exercise.now node.now menu.now k) }
+    ensures fair { IfNone result (IsFairIn 4 exercise.now node.now menu.now k) }
 {
     if !rests.may_be_better(node, k, best) {
         return Some((k + 1, tried));
@@ -161,12 +164,13 @@ fn next_held<R: Rests>(
     requires menu { IsViewOf exercise.now node.now.state.newest.len menu.now }
     requires before { ComesBefore exercise.now sheet.now node.now before.now }
     requires held { IsHeldNext menu.now before.now node.now.hint }
+    requires inner { begins_bar node.now.state.newest.len ≡ false }
     requires within { from ≤ length (columns_seen menu.now) }
     ensures onward { from ≤ result }
     ensures within { result ≤ length (columns_seen menu.now) }
     ensures passed { PassesOver R.chained exercise.now sheet.now node.now best from result }
     ensures told { result < length (columns_seen menu.now)
-        → IsSmoothIn 4 exercise.now node.now menu.now result }
+        → IsToldIn exercise.now node.now menu.now result }
 {
     let hint = node.hint;
     if from > hint {
@@ -194,8 +198,8 @@ fn alike_before(menu: &MenuView<'_>, from: usize, k: usize) -> usize
 
 /// The first number, from this one on, of a column that may follow, has a rest, and isn't pruned by
 /// the cells of its lowest voices: they settle no strict break and don't cost too much to be better
-/// than the best. The menu's length where there is none. Where nothing is relaxed, and the column
-/// before the first number breaks no rule of melody, neither does this one.
+/// than the best. The menu's length where there is none. Where the same is told of the column
+/// before the first number, it is told of this one what it keeps.
 pub(crate) fn next_unpruned<R: Rests>(
     exercise: &Exercise,
     sheet: &Sheet,
@@ -210,15 +214,15 @@ pub(crate) fn next_unpruned<R: Rests>(
     requires node { IsInner (IsNodeOf exercise.now sheet.now node.now) (columns_in exercise.now) }
     requires menu { IsViewOf exercise.now node.now.state.newest.len menu.now }
     requires within { from ≤ length (columns_seen menu.now) }
-    requires before { IsToldBefore (IsSmoothIn 4 exercise.now node.now menu.now) from }
+    requires before { IsToldBefore (IsToldIn exercise.now node.now menu.now) from }
     ensures onward { from ≤ result }
     ensures within { result ≤ length (columns_seen menu.now) }
     ensures passed { PassesOver R.chained exercise.now sheet.now node.now best from result }
     ensures told { result < length (columns_seen menu.now)
-        → IsSmoothIn 4 exercise.now node.now menu.now result }
+        → IsToldIn exercise.now node.now menu.now result }
 {
     let before = node.state.before(exercise);
-    if menu.goes_on(node.state.len(), before, node.hint) {
+    if menu.goes_on(node.state.newest.len, before, node.hint) {
         return next_held(exercise, sheet, rests, node, menu, before, from, best);
     }
     let mut k = next_choice(menu, before, from, node.hint);

@@ -3,9 +3,9 @@ use Rattle.std.proofs.lemmas.Bool.{OnTrue_at}
 use Rattle.std.proofs.lemmas.List.{take_all}
 use Rattle.rule_law.specs.Quiet.{is_quiet}
 use Rattle.fux_judge.specs.Penalties.{newly_paid}
-use Rattle.fux_judge.specs.Pruning.{IsSmoothWithin}
+use Rattle.fux_judge.specs.Pruning.{IsFairWithin}
 use Rattle.fux_judge.proofs.ChargeLemmas.{one_voice_more, reached, settles_all, settles_first}
-use Rattle.fux_judge.proofs.SmoothLemmas.{all_smooth, quiet_smooth, smooth_more}
+use Rattle.fux_judge.proofs.FairLemmas.{all_fair, quiet_fair, fair_more}
 use Rattle.fux_judge.proofs.pruning.pruned_within.Goals as goal
 
 pub overflow_add-least : goal.overflow_add-least
@@ -14,7 +14,7 @@ overflow_add-least c = omega (arith, c.charge_for-charge.ensures.bound)
 pub loop-voice-init : goal.loop-voice-init
 loop-voice-init c = record {
   least = λ p after. omega arith;
-  smooth = λ told nothing p is v lt. absurd (omega (arith, lt));
+  fair = λ told nothing p is v lt. absurd (omega (arith, lt));
   small = omega arith;
 }
 
@@ -23,11 +23,11 @@ loop-voice-preserved c = record {
   least = λ p after.
       one_voice_more c.moment_of-moment.result.exercise.now c.args.sheet.now p c.moment_of-moment.result.column.now
       c.loop-voice.voice _ _ (c.loop-voice.invariant.least p after) (c.charge_for-charge.ensures.value p after);
-  smooth = λ told.
-      smooth_more c.args.ex.now c.args.state.now c.args.col.now.items c.moment_of-moment.result
+  fair = λ told.
+      fair_more c.args.ex.now c.args.state.now c.args.col.now.items c.moment_of-moment.result
       c.moment_of-moment.ensures.exercise c.moment_of-moment.ensures.state c.moment_of-moment.ensures.column
-      c.moment_of-moment.ensures.after c.loop-voice.voice c.args.tried told (c.loop-voice.invariant.smooth told)
-      c.if-breaks_untried.ensures.smooth;
+      c.moment_of-moment.ensures.after c.loop-voice.voice c.args.tried told (c.loop-voice.invariant.fair told)
+      c.if-breaks_untried.ensures.fair;
   small = omega (arith, c.charge_for-charge.ensures.bound);
 }
 
@@ -77,26 +77,26 @@ returns-then-costs_too_much-clause-pruned c = λ p is other long same.
     ))
     (OnTrue_at c.if-costs_too_much.true c.costs_too_much.ensures))
 
-pub returns-then-is_quiet-clause-smooth : goal.returns-then-is_quiet-clause-smooth
-returns-then-is_quiet-clause-smooth c = λ told.
-    quiet_smooth 4 c.args.state.now.newest.len c.args.ex.now c.args.state.now c.args.col.now.items
+pub returns-then-is_quiet-clause-fair : goal.returns-then-is_quiet-clause-fair
+returns-then-is_quiet-clause-fair c = λ told.
+    quiet_fair 4 c.args.state.now.newest.len c.args.ex.now c.args.state.now c.args.col.now.items
     (ap (is_quiet c.args.state.now.newest.len) (sym c.as_slice.ensures.value) ∙ sym c.if-is_quiet.ensures)
 
 pub returns-then-reaches-clause-sound : goal.returns-then-reaches-clause-sound
 returns-then-reaches-clause-sound c = λ told.
-    subst (λ (n : ℕ). IsSmoothWithin n c.args.ex.now c.args.state.now c.args.col.now.items) (omega arith)
-    (c.loop-voice.invariant.smooth told)
+    subst (λ (n : ℕ). IsFairWithin n c.args.ex.now c.args.state.now c.args.col.now.items) (omega arith)
+    (c.loop-voice.invariant.fair told)
 
 pub returns-then-breaks_untried-clause-sound : goal.returns-then-breaks_untried-clause-sound
 returns-then-breaks_untried-clause-sound c = λ told.
-    subst (λ (n : ℕ). IsSmoothWithin n c.args.ex.now c.args.state.now c.args.col.now.items) (omega arith)
-    (c.loop-voice.invariant.smooth told)
+    subst (λ (n : ℕ). IsFairWithin n c.args.ex.now c.args.state.now c.args.col.now.items) (omega arith)
+    (c.loop-voice.invariant.fair told)
 
 pub returns-then-costs_too_much-clause-sound : goal.returns-then-costs_too_much-clause-sound
 returns-then-costs_too_much-clause-sound c = λ told nothing p is v lt.
-    c.loop-voice.invariant.smooth told nothing p is v (omega (arith, lt))
+    c.loop-voice.invariant.fair told nothing p is v (omega (arith, lt))
 
-pub returns-clause-smooth : goal.returns-clause-smooth
-returns-clause-smooth c = λ told.
-    all_smooth c.args.ex.now c.args.state.now c.args.col.now.items c.loop-voice.voice (omega arith)
-    (c.loop-voice.invariant.smooth told)
+pub returns-clause-fair : goal.returns-clause-fair
+returns-clause-fair c = λ told.
+    all_fair c.args.ex.now c.args.state.now c.args.col.now.items c.loop-voice.voice (omega arith)
+    (c.loop-voice.invariant.fair told)

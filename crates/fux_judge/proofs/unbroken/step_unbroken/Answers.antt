@@ -5,7 +5,7 @@ use Rattle.fux_judge.specs.Late.{HaveNoPlace}
 use Rattle.fux_judge.specs.Moments.{is_strictly_broken_then}
 use Rattle.fux_judge.specs.Penalties.{paid}
 use Rattle.fux_judge.specs.Rules.{all_sets}
-use Rattle.fux_judge.proofs.SmoothLemmas.{smooth_then}
+use Rattle.fux_judge.proofs.FairLemmas.{told_then}
 use Rattle.fux_judge.proofs.StepLemmas.{broken_at_once, broken_late, some_at_once, step_pays}
 use Rattle.fux_judge.proofs.unbroken.step_unbroken.Goals as goal
 
@@ -18,9 +18,9 @@ settles_late_break-requires-clause-idle c =
 
 pub readings-paid-requires-clause-told : goal.readings-paid-requires-clause-told
 readings-paid-requires-clause-told c = λ yes.
-    smooth_then c.args.ex.now c.args.state.now c.args.col.now.items c.moment_of-moment.result
+    told_then c.args.ex.now c.args.state.now c.args.col.now.items c.moment_of-moment.result
     c.moment_of-moment.ensures.exercise c.moment_of-moment.ensures.state c.moment_of-moment.ensures.column
-    (c.requires.told yes)
+    (c.requires.told yes) (c.requires.menu yes)
 
 pub returns-then-settles_late_break-clause-broken : goal.returns-then-settles_late_break-clause-broken
 returns-then-settles_late_break-clause-broken c = λ p st on.

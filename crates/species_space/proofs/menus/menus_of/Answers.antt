@@ -3,7 +3,7 @@ use Rattle.std.proofs.lemmas.List.{length_push}
 use Rattle.fux_grid.specs.Grid.{items_of}
 use Rattle.fux_grid.specs.Menus.{menu_of}
 use Rattle.chain_sums.proofs.TableLemmas.{each_pushed}
-use Rattle.species_space.specs.Blocks.{SkipDead}
+use Rattle.species_space.specs.Blocks.{AreUndead}
 use Rattle.species_space.specs.declared.menus.PlaceMenu.{PlaceMenu}
 use Rattle.species_space.specs.MixedMenus.{ArePlaces, IsMenuOf, IsPlaceMenu}
 use Rattle.species_space.proofs.MenuLemmas.{place_kept}
@@ -28,7 +28,7 @@ loop-i-preserved c =
     let next : IsPlaceMenu ex more i place = record {
       there = omega (arith, number.last);
       menu = number.menu;
-      skip = subst (λ cols. SkipDead ex i cols place.undead.items) columns c.in_ok-undead.ensures;
+      skip = subst (λ cols. AreUndead ex i cols place.undead.items) columns c.in_ok-undead.ensures;
       idle = c.idle_rules-idle.ensures;
     } in
     let same : i ≡ i + 1 - 1 = omega arith in

@@ -1,12 +1,13 @@
 use Rattle.std.proofs.Common.{◌≡◌, ℕ, ◌+◌, ◌<◌, List, [], ◌∷◌, length, slice_index_or, true≢false, refl, ap, sym, ◌∙◌, subst, arith}
 use Rattle.std.specs.List.{list_any}
+use Rattle.std.proofs.lemmas.List.Elements.{Contains-get_or}
 use Rattle.fux_grid.specs.declared.cell.Cell.{Cell}
 use Rattle.fux_grid.specs.declared.exercise.Exercise.{Exercise}
 use Rattle.fux_grid.specs.Columns.{ColumnFollows}
 use Rattle.fux_grid.specs.Exercises.{columns_in}
-use Rattle.fux_grid.specs.Menus.{menu_of}
-use Rattle.fux_grid.proofs.MenuLemmas.{menu_of-full}
-use Rattle.fux_judge.specs.Pruning.{IsSmoothWithin}
+use Rattle.fux_grid.specs.Menus.{IsInMenu, menu_of}
+use Rattle.fux_grid.proofs.MenuLemmas.{menu_of-contains, menu_of-full}
+use Rattle.fux_judge.specs.Pruning.{IsToldColumn}
 use Rattle.fux_judge.specs.Rules.{rules_read}
 use Rattle.fux_judge.specs.Penalties.{newly_broken}
 use Rattle.species_space.specs.Paths.{prefix_at, column_at, width_at}
@@ -49,8 +50,21 @@ step_unbroken-requires-clause-full c =
 
 pub step_unbroken-requires-clause-told : goal.step_unbroken-requires-clause-told
 step_unbroken-requires-clause-told c = λ yes.
-    subst (λ (col : List Cell). IsSmoothWithin 4 c.args.exercise.now c.args.node.now.state col)
+    subst (λ (col : List Cell). IsToldColumn c.args.exercise.now c.args.node.now.state col)
     (sym c.requires.column) (c.requires.told yes)
+
+pub step_unbroken-requires-clause-menu : goal.step_unbroken-requires-clause-menu
+step_unbroken-requires-clause-menu c = λ yes.
+    let ex = c.args.exercise.now in
+    let child = c.requires.child in
+    let i = length child.path in
+    let long = as_long ex c.args.sheet.now c.args.node.now child.path child.at in
+    let same = chosen ex child.path c.args.k c.args.node.now.state.newest.len c.args.column.now.items long
+    c.requires.column in
+    subst (λ (n : ℕ). IsInMenu ex n c.args.column.now.items) (sym long)
+    (subst (λ (col : List Cell). IsInMenu ex i col) (sym same)
+    ((menu_of-contains ex i (column_at ex child.path c.args.k)).0
+    (Contains-get_or (menu_of ex i) c.args.k [] child.within)))
 
 pub returns-in_default : goal.returns-in_default
 returns-in_default c = λ chained is path at.

@@ -4,7 +4,7 @@ use Rattle.fux_grid.specs.declared.exercise.Exercise.{Exercise}
 use Rattle.fux_grid.specs.Menus.{menu_of}
 use Rattle.chain_sums.proofs.TableLemmas.{each_pushed}
 use Rattle.species_space.specs.declared.blocks.BlockMenu.{BlockMenu}
-use Rattle.species_space.specs.Blocks.{AreBlocksOf, SkipDead}
+use Rattle.species_space.specs.Blocks.{AreBlocksOf, AreUndead}
 use Rattle.species_space.specs.Task.{AreMenus, IsBlockMenuOf}
 use Rattle.species_space.proofs.space.menus_of.Goals as goal
 
@@ -24,7 +24,7 @@ loop-i-preserved c =
     let next : IsBlockMenuOf ex i menu = record {
       blocks = subst (λ (e : Exercise). AreBlocksOf (menu_of e i) menu.blocks) c.requires.tables
           c.blocks_at-blocks.ensures;
-      skip = subst (λ cols. SkipDead ex i cols menu.undead.items) is c.in_ok-undead.ensures;
+      skip = subst (λ cols. AreUndead ex i cols menu.undead.items) is c.in_ok-undead.ensures;
       idle = c.idle_rules-idle.ensures;
     } in
     record {

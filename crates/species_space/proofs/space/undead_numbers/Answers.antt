@@ -1,10 +1,10 @@
 use Rattle.std.proofs.Common.{◌≡◌, ℕ, ◌+◌, ◌-◌, ◌<◌, ◌≤◌, List, [], ◌++◌, length, replicate, slice_index_or, take, ap, sym, ◌∙◌, subst, arith}
-use Rattle.std.proofs.lemmas.Bool.{OnTrue_at}
+use Rattle.std.proofs.lemmas.Bool.{OnFalse_at, OnTrue_at}
 use Rattle.std.proofs.lemmas.List.{length-append, length-map, length-replicate, take_all}
 use Rattle.fux_grid.specs.Grid.{items_of}
-use Rattle.fux_judge.specs.Always.{IsAlwaysDead}
-use Rattle.species_space.specs.Blocks.{AreAlwaysDead, SkipDead}
-use Rattle.species_space.proofs.Passing.{passed_on, skip_more}
+use Rattle.fux_judge.specs.Always.{IsAlwaysDead, IsSound}
+use Rattle.species_space.specs.Blocks.{AreAlwaysDead, AreUndead, SkipDead}
+use Rattle.species_space.proofs.Passing.{AreSoundSoFar, passed_on, skip_more, sound_more}
 use Rattle.species_space.proofs.space.undead_numbers.Goals.{then-not-is_always_dead+in_ok-resize, else-not-is_always_dead}
 use Rattle.species_space.proofs.space.undead_numbers.Goals as goal
 
@@ -17,6 +17,7 @@ loop-k-init c =
         within = λ k lt. absurd (omega (arith, lt, none));
         dead = λ k lt. absurd (omega (arith, lt, none));
       };
+      sound = λ j lt own. absurd (omega (arith, lt, none));
       beyond = λ j le lt. absurd (omega (arith, lt));
     }
 
@@ -57,15 +58,22 @@ loop-k-preserved c =
             skip = subst (SkipDead ex i menu) (sym is)
                 (skip_more ex i menu numbers (k + 1 - length numbers) k old.skip
                 (omega (arith, all, c.loop-k-test.true)) old.beyond);
+            sound = subst (AreSoundSoFar ex i menu) (sym is)
+                (sound_more ex i menu numbers (k + 1 - length numbers) k (k + 1) old.sound
+                (λ j from lt own. subst (λ n. IsSound ex i (slice_index_or menu n [])) (the_last j k own lt)
+                (subst (IsSound ex i) c.column_at.ensures
+                (OnFalse_at w.if-not-is_always_dead.true c.is_always_dead.ensures.sound)))
+                (omega (arith, long numbers (k + 1) k (omega (arith, old.short)))));
             beyond = λ j le lt. absurd (omega (arith, le, lt, size));
           }
       | else-not-is_always_dead w ↦
           let same : numbers ≡ c.if-not-is_always_dead.numbers.items = sym (ap (λ vec. vec.items) w.numbers-is) in
           let dead : IsAlwaysDead ex i (slice_index_or menu k []) = subst (IsAlwaysDead ex i) c.column_at.ensures
-          (OnTrue_at w.if-not-is_always_dead.false c.is_always_dead.ensures) in
+          (OnTrue_at w.if-not-is_always_dead.false c.is_always_dead.ensures.dead) in
           record {
             short = subst (λ ns. length ns ≤ k + 1) same (omega (arith, old.short));
             skip = subst (SkipDead ex i menu) same old.skip;
+            sound = subst (AreSoundSoFar ex i menu) same old.sound;
             beyond = subst (λ ns. AreAlwaysDead ex i menu (length ns) (k + 1)) same
                 (passed_on (λ j. IsAlwaysDead ex i (slice_index_or menu j [])) (length numbers) k (k + 1) old.beyond
                 (λ j le lt. subst (λ n. IsAlwaysDead ex i (slice_index_or menu n [])) (the_last j k le lt) dead));
@@ -87,6 +95,22 @@ returns c =
     let short : length numbers ≤ n = omega (arith, old.short, c.loop-k.auto.k-end) in
     let is : c.resize-2.new.self.items ≡ numbers ++ replicate (n - length numbers) n = c.in_ok-resize-2.ensures.items
     ∙ kept numbers n n _ c.loop-k.numbers.ok.0 short in
-    subst (SkipDead ex i menu) (sym is)
-    (skip_more ex i menu numbers (n - length numbers) n old.skip (omega (arith, all))
-    (λ j le lt. old.beyond j le (omega (arith, lt, c.loop-k-test.false))))
+    let size : length (numbers ++ replicate (n - length numbers) n) ≡ n = long numbers n n short in
+    subst (AreUndead ex i menu) (sym is) record {
+      skip = skip_more ex i menu numbers (n - length numbers) n old.skip (omega (arith, all))
+          (λ j le lt. old.beyond j le (omega (arith, lt, c.loop-k-test.false)));
+      sound = λ j lt own.
+          let there : j < length (numbers ++ replicate (n - length numbers) n) = omega (arith, lt, all, size) in
+          sound_more ex i menu numbers (n - length numbers) n n old.sound
+          (λ m from small late. absurd (omega (arith, small, late))) (omega (arith, size)) j there (own there);
+    }
+
+pub returns-then-not-some_are_dead : goal.returns-then-not-some_are_dead
+returns-then-not-some_are_dead c =
+    record {
+      skip = record {
+        within = λ k lt. absurd (omega (arith, lt));
+        dead = λ k lt. absurd (omega (arith, lt));
+      };
+      sound = λ k lt own. OnFalse_at c.if-not-some_are_dead.true c.some_are_dead.ensures k lt;
+    }

@@ -20,7 +20,7 @@ returns-then-undead-k-clause-passed c = c.loop-k.invariant.passed
 
 pub next_that_follows-k-requires-in-loop-k-clause-within : goal.next_that_follows-k-requires-in-loop-k-clause-within
 next_that_follows-k-requires-in-loop-k-clause-within c =
-    let later = c.undead_from-undead.ensures c.if-undead-k.false in
+    let later = c.undead_from-undead.ensures.later c.if-undead-k.false in
     omega (arith, later.1, c.requires.bounded c.loop-k.k later.0)
 
 pub loop-k-smaller : goal.loop-k-smaller
@@ -39,7 +39,7 @@ loop-k-preserved c =
     let k = c.loop-k.k in
     let next = c.next_that_follows-k-in-loop-k.ensures in
     let to = c.next_that_follows-k-in-loop-k.result in
-    let later = c.undead_from-undead.ensures c.if-undead-k.false in
+    let later = c.undead_from-undead.ensures.later c.if-undead-k.false in
     record {
       onward = omega (arith, c.loop-k.invariant.onward, c.if-undead-k.false, next.onward);
       within = next.within;
@@ -56,3 +56,10 @@ returns-clause-within c = c.loop-k.invariant.within
 
 pub returns-clause-passed : goal.returns-clause-passed
 returns-clause-passed c = c.loop-k.invariant.passed
+
+pub returns-then-undead-k-clause-unskipped : goal.returns-then-undead-k-clause-unskipped
+returns-then-undead-k-clause-unskipped c = λ lt there.
+    omega (arith, c.undead_from-undead.ensures.here there, c.if-undead-k.true)
+
+pub returns-clause-unskipped : goal.returns-clause-unskipped
+returns-clause-unskipped c = λ lt. absurd (omega (arith, lt, c.loop-k-test.false, c.len.ensures))

@@ -6,7 +6,7 @@ use Rattle.floor_tables.specs.Tables.{Task}
 use Rattle.species_space.specs.Blocks.{columns_seen}
 use Rattle.species_space.specs.Nodes.{IsNodeOf}
 use Rattle.species_space.specs.Paths.{IsNoBetter}
-use Rattle.species_space.proofs.Smooth.{held_smooth}
+use Rattle.species_space.proofs.Fair.{held_told}
 use Rattle.species_space.proofs.WalkSteps.{other_no_better}
 use Rattle.species_space.proofs.walk.next_held.Goals as goal
 
@@ -70,5 +70,5 @@ returns-then-not-may_be_better-clause-told g c = λ lt.
 pub returns-clause-told : goal.returns-clause-told
 returns-clause-told g c = λ lt.
     let held = c.requires.held in
-    held_smooth 4 c.args.exercise.now c.args.node.now.state _
+    held_told c.args.exercise.now c.args.node.now.state _ c.requires.inner
     (c.requires.menu.cut.holds held.1 c.args.node.now.hint [] lt)

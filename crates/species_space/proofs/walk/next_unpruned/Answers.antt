@@ -3,7 +3,7 @@ use Rattle.fux_grid.proofs.MenuLemmas.{menu_of-full}
 use Rattle.species_space.specs.Blocks.{columns_seen}
 use Rattle.species_space.specs.Paths.{IsNoBetter}
 use Rattle.species_space.proofs.Passing.{passed_on}
-use Rattle.species_space.proofs.Smooth.{alike_smooth, first_smooth}
+use Rattle.species_space.proofs.Fair.{alike_fair, first_fair}
 use Rattle.species_space.proofs.WalkSteps.{column_of_menu, stray_no_better}
 use Rattle.species_space.proofs.walk.next_unpruned.Goals as goal
 
@@ -11,7 +11,10 @@ pub next_held-requires-clause-before : goal.next_held-requires-clause-before
 next_held-requires-clause-before g c = λ path at. c.before-before.ensures _ at.state
 
 pub next_held-requires-clause-held : goal.next_held-requires-clause-held
-next_held-requires-clause-held g c = c.goes_on.ensures c.if-goes_on.true
+next_held-requires-clause-held g c = c.goes_on.ensures.held c.if-goes_on.true
+
+pub next_held-requires-clause-inner : goal.next_held-requires-clause-inner
+next_held-requires-clause-inner g c = c.goes_on.ensures.inner c.if-goes_on.true
 
 pub loop-k-init : goal.loop-k-init
 loop-k-init g c =
@@ -23,18 +26,20 @@ loop-k-init g c =
     record {
       onward = next.onward;
       within = next.within;
-      told = first_smooth ex node.state menu c.args.from c.alike_before-tried.result c.next_choice-k.result
+      told = first_fair ex node.state menu c.args.from c.alike_before-tried.result c.next_choice-k.result
           c.requires.valid.most_voices
           (λ j e.
           ap (λ cols. length (slice_index_or cols j [])) c.requires.menu.columns
           ∙ menu_of-full ex node.state.newest.len j []
           (subst (λ cols. j < length cols) c.requires.menu.columns (omega (arith, e, c.requires.within))))
-          c.alike_before-tried.ensures.none c.alike_before-tried.ensures.alike c.requires.before;
+          c.alike_before-tried.ensures.none c.alike_before-tried.ensures.alike
+          (λ j e. (c.requires.before j e).fair);
+      unskipped = next.unskipped;
       passed = λ path at j le lt.
           stray_no_better ex sheet node path at j g.R.Rests.chained c.args.best c.before-before.result.now
           (slice_index_or menu j [])
           (c.before-before.ensures _ at.state) (column_of_menu ex sheet node path at menu j c.requires.menu.columns)
-          (next.passed ex node.state.newest.len c.requires.menu.skip j le lt);
+          (next.passed ex node.state.newest.len c.requires.menu.skip.skip j le lt);
     }
 
 pub returns-in_default-clause-onward : goal.returns-in_default-clause-onward
@@ -70,7 +75,7 @@ loop-k-preserved g c =
     record {
       onward = omega (arith, c.loop-k.invariant.onward, c.in-Some.ensures.onward, c.in-Some.end-is, next.onward);
       within = next.within;
-      told = alike_smooth ex node.state (slice_index_or menu k []) (slice_index_or menu to []) _ _ _
+      told = alike_fair ex node.state (slice_index_or menu k []) (slice_index_or menu to []) _ _ _
           (ap (λ cols. length (slice_index_or cols k [])) c.requires.menu.columns
           ∙ menu_of-full ex node.state.newest.len k []
           (subst (λ cols. k < length cols) c.requires.menu.columns (omega (arith, c.loop-k-test.true, c.len.ensures))))
@@ -79,6 +84,7 @@ loop-k-preserved g c =
             omega (arith, lt, c.min-tried.ensures, c.in-Some.sound-is),
             omega (arith, lt, c.min-tried.ensures, c.in-Some.sound-is),
           ));
+      unskipped = next.unskipped;
       passed = λ path at.
           let P : ℕ → Type 0 = λ j. IsNoBetter g.R.Rests.chained ex sheet path c.args.best j in
           passed_on P c.args.from k to (c.loop-k.invariant.passed path at)
@@ -88,7 +94,7 @@ loop-k-preserved g c =
           stray_no_better ex sheet node path at j g.R.Rests.chained c.args.best c.before-before.result.now
           (slice_index_or menu j [])
           (c.before-before.ensures _ at.state) (column_of_menu ex sheet node path at menu j c.requires.menu.columns)
-          (next.passed ex node.state.newest.len c.requires.menu.skip j le lt)));
+          (next.passed ex node.state.newest.len c.requires.menu.skip.skip j le lt)));
     }
 
 pub returns-clause-onward : goal.returns-clause-onward
@@ -101,7 +107,10 @@ pub returns-clause-passed : goal.returns-clause-passed
 returns-clause-passed g c = c.loop-k.invariant.passed
 
 pub returns-in_default-clause-told : goal.returns-in_default-clause-told
-returns-in_default-clause-told g c = λ lt. c.in_default.ensures.smooth
+returns-in_default-clause-told g c = λ lt. record {
+  fair = c.in_default.ensures.fair;
+  sound = c.requires.menu.skip.sound c.loop-k.k lt (c.loop-k.invariant.unskipped lt);
+}
 
 pub returns-clause-told : goal.returns-clause-told
 returns-clause-told g c = λ lt. absurd (omega (arith, lt, c.loop-k-test.false, c.len.ensures))

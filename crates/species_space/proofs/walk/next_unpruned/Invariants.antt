@@ -1,7 +1,7 @@
 -- What the walk over a menu passes.
-use Rattle.std.proofs.Common.{◌-◌, ◌≤◌, length}
-use Rattle.species_space.specs.Blocks.{columns_seen}
-use Rattle.species_space.specs.Nodes.{IsSmoothIn, PassesOver}
+use Rattle.std.proofs.Common.{◌-◌, ◌<◌, ◌≤◌, length}
+use Rattle.species_space.specs.Blocks.{IsUnskipped, columns_seen}
+use Rattle.species_space.specs.Nodes.{IsFairIn, PassesOver}
 use Rattle.species_space.proofs.walk.next_unpruned.Given as goal
 
 -- each column so far is dead, or no better than the best
@@ -9,7 +9,8 @@ abbrev pub invariant-loop-k : goal.invariant-loop-k
 invariant-loop-k g l = record {
   onward : l.from ≤ l.k;
   within : l.k ≤ length (columns_seen l.menu);
-  told : IsSmoothIn l.tried l.exercise l.node l.menu l.k;
+  told : IsFairIn l.tried l.exercise l.node l.menu l.k;
+  unskipped : l.k < length (columns_seen l.menu) → IsUnskipped l.menu.undead.now l.k;
   passed : PassesOver g.R.Rests.chained l.exercise l.sheet l.node l.fn.best l.from l.k;
 }
 

@@ -5,7 +5,7 @@ use Rattle.fux_grid.specs.Exercises.{IsValid}
 use Rattle.fux_grid.specs.Menus.{menu_of}
 use Rattle.fux_grid.proofs.MenuLemmas.{menu_of-full}
 use Rattle.floor_tables.specs.Tables.{Task}
-use Rattle.fux_judge.specs.Pruning.{IsSmoothWithin}
+use Rattle.fux_judge.specs.Pruning.{IsFairWithin}
 use Rattle.species_space.specs.Blocks.{columns_seen}
 use Rattle.species_space.specs.Nodes.{IsNodeOf}
 use Rattle.species_space.specs.Paths.{IsNoBetter}
@@ -59,18 +59,18 @@ returns-clause-passed g c = λ path at j le lt.
     (c.in_ok-voices.ensures.pruned _ at.state (slice_index_or menu j []) full
     (block.cells j le lt ∙ ap (take c.in_ok-voices.voices) (sym c.column.ensures)))
 
-pub returns-in_err-voices-clause-smooth : goal.returns-in_err-voices-clause-smooth
-returns-in_err-voices-clause-smooth g c =
+pub returns-in_err-voices-clause-fair : goal.returns-in_err-voices-clause-fair
+returns-in_err-voices-clause-fair g c =
     let state = c.args.node.now.state in
-    let P : List Cell → Type 0 = λ col. IsSmoothWithin 4 c.args.exercise.now state col in
-    let its = subst (λ (col : List Cell). IsSmoothWithin c.args.tried c.args.exercise.now state col)
+    let P : List Cell → Type 0 = λ col. IsFairWithin 4 c.args.exercise.now state col in
+    let its = subst (λ (col : List Cell). IsFairWithin c.args.tried c.args.exercise.now state col)
     (sym c.column.ensures) c.requires.tried in
-    rw c.from_residual.ensures (subst P c.column.ensures (c.in_err-voices.ensures.smooth its))
+    rw c.from_residual.ensures (subst P c.column.ensures (c.in_err-voices.ensures.fair its))
 
 pub returns-clause-sound : goal.returns-clause-sound
 returns-clause-sound g c =
     let state = c.args.node.now.state in
-    let P : List Cell → Type 0 = λ col. IsSmoothWithin (c.in_ok-voices.voices - 1) c.args.exercise.now state col in
-    let its = subst (λ (col : List Cell). IsSmoothWithin c.args.tried c.args.exercise.now state col)
+    let P : List Cell → Type 0 = λ col. IsFairWithin (c.in_ok-voices.voices - 1) c.args.exercise.now state col in
+    let its = subst (λ (col : List Cell). IsFairWithin c.args.tried c.args.exercise.now state col)
     (sym c.column.ensures) c.requires.tried in
     subst P c.column.ensures (c.in_ok-voices.ensures.sound its)

@@ -3,7 +3,7 @@ use Rattle.fux_grid.specs.Exercises.{columns_in}
 use Rattle.fux_grid.specs.Grid.{items_of}
 use Rattle.fux_grid.specs.Menus.{menu_of}
 use Rattle.floor_tables.specs.Tables.{Task}
-use Rattle.species_space.specs.Blocks.{AreBlocksOf, SkipDead}
+use Rattle.species_space.specs.Blocks.{AreBlocksOf, AreUndead}
 use Rattle.species_space.specs.Task.{IsBlockMenuOf}
 use Rattle.species_space.proofs.space.SpeciesSpace.menu.Goals as goal
 
@@ -23,6 +23,6 @@ returns c =
     record {
       columns = columns;
       cut = subst (λ cols. AreBlocksOf cols menu.blocks) (sym columns) known.blocks;
-      skip = subst (λ cols. SkipDead ex i cols c.as_slice.result.now) (sym columns)
-          (subst (SkipDead ex i (menu_of ex i)) (sym undead) known.skip);
+      skip = subst (λ cols. AreUndead ex i cols c.as_slice.result.now) (sym columns)
+          (subst (AreUndead ex i (menu_of ex i)) (sym undead) known.skip);
     }
