@@ -104,7 +104,7 @@ disturbance_is_local ex voices =
 
 -- ---- S15: the notes of a voice in a longer list
 
-onsets-append : (n : ℕ) (xs ys : List Cell) → onsets_from n (xs ++ ys) ≡ onsets_from n xs
+pub onsets-append : (n : ℕ) (xs ys : List Cell) → onsets_from n (xs ++ ys) ≡ onsets_from n xs
     ++ onsets_from (n + length xs) ys
 onsets-append n [] ys = ap (λ k. onsets_from k ys) (n_plus n)
   where

@@ -221,13 +221,15 @@ excuse_start ex voices i behind now ahead menu = at (pair_of voices)
         of_two pair.0 pair.1
         (and_parts (nat_lt pair.1 ex.voices) (clash_unexcused ex i behind now ahead pair.0 pair.1) h).1
 
--- in a list S15 is open at a place for one way to name the voices, and in a longer one it isn't
-record IsClosing (ex : Exercise) (p s : List (List Cell)) (i : ℕ) : Type 0 where
+-- in a list S15 is open at a place for one way to name the voices, and in a longer one it isn't.
+-- What fails for the set fails for that way
+pub record IsClosing (ex : Exercise) (voices : ℕ) (p s : List (List Cell)) (i : ℕ) : Type 0 where
   pub v : ℕ
   pub w : ℕ
   pub free : is_free ex v ≡ true
   pub opens : is_open_clash ex i (slice_index_or p i []) (drop (i + 1) p) v w ≡ true
   pub closed : is_open_clash ex i (slice_index_or s i []) (drop (i + 1) s) v w ≡ false
+  pub fails : (other : ℕ → ℕ → Bool) → on_some_way ex other voices ≡ false → other v w ≡ false
 
 module _ (ex : Exercise) (voices : ℕ) (p : List (List Cell)) (col : List Cell) (i : ℕ) (on : GoesOn ex p (col ∷ []))
   where
@@ -374,7 +376,7 @@ module _ (ex : Exercise) (voices : ℕ) (p : List (List Cell)) (col : List Cell)
         (and_parts (nat_lt i (length grown)) (reading_of (passing_enough ex voices) grown i) now_then.0).0
 
     -- a way that was open before the newest column, which closes it
-    closing : newly_passing ex voices p col i ≡ true → i < length p → IsClosing ex p grown i
+    pub closing : newly_passing ex voices p col i ≡ true → i < length p → IsClosing ex voices p grown i
     closing h within =
         let now_then = and_parts (settled_by (passing_enough ex voices) grown i)
         (not (settled_by (passing_enough ex voices) p i)) h in
@@ -386,6 +388,7 @@ module _ (ex : Exercise) (voices : ℕ) (p : List (List Cell)) (col : List Cell)
           free = one.free;
           opens = one.passes;
           closed = one.fails (is_open_clash ex i (here grown) (ahead grown)) (not-true _ settled.1);
+          fails = one.fails;
         }
       where
         still_open : settled_by (passing_enough ex voices) p i ≡ false

@@ -60,36 +60,49 @@ module _ (ex : Exercise) (voices : ℕ) (p : List (List Cell)) (col : List Cell)
   whole : take len grown ≡ grown
   whole = take_all len grown (omega (arith, count))
 
-  pub open_still : true ≡ opens grown (take len grown) → false ≡ newly (settled_by (passing_enough ex voices)) p col i
-  open_still h =
-      sym (ap (λ b. b && not (settled_by (passing_enough ex voices) p i))
-      (settled_now ∙ ap not (sym (h ∙ ap (opens grown) whole))))
+  abbrev settles_newly : Bool
+  settles_newly = newly (settled_by (passing_enough ex voices)) p col i
 
-  module _ (closed : false ≡ opens grown (take len grown)) where
-    now_true : settled_by (passing_enough ex voices) grown i ≡ true
-    now_true = settled_now ∙ ap not (sym (closed ∙ ap (opens grown) whole))
+  now_told : (was : Bool) → settled_by (passing_enough ex voices) p i ≡ was
+      → settles_newly ≡ (not (opens grown (take len grown)) && not was)
+  now_told was e =
+      ap (λ b. b && not (settled_by (passing_enough ex voices) p i))
+      (settled_now ∙ ap not (sym (ap (opens grown) whole)))
+      ∙ ap (λ b. not (opens grown (take len grown)) && not b) e
 
-    pub settled_newest : i + 1 ≡ len → true ≡ newly (settled_by (passing_enough ex voices)) p col i
-    settled_newest last =
-        sym (ap (λ b. b && not (settled_by (passing_enough ex voices) p i)) now_true
-        ∙ ap (λ b. not (b && reading_of (passing_enough ex voices) p i))
-        (le-ltb i (length p) (omega (arith, last, size))))
+  settles : settled_by (passing_enough ex voices) p i ≡ false → not (opens grown (take len grown)) ≡ settles_newly
+  settles e = sym (now_told false e ∙ plain (not (opens grown (take len grown))))
+    where
+      plain : (b : Bool) → (b && true) ≡ b
+      plain true = refl
+      plain false = refl
 
-    pub settled_then : i + 1 ≢ len → opens grown (take (len - 1) grown)
-        ≡ newly (settled_by (passing_enough ex voices)) p col i
-    settled_then earlier_place =
+  -- at its own place nothing was settled before
+  pub settles_own : i + 1 ≡ len → not (opens grown (take len grown)) ≡ settles_newly
+  settles_own last =
+      settles (ap (λ b. b && reading_of (passing_enough ex voices) p i)
+      (le-ltb i (length p) (omega (arith, last, size))))
+
+  module _ (earlier_place : i + 1 ≢ len) where
+    settled_before : settled_by (passing_enough ex voices) p i ≡ not (opens grown (take (len - 1) grown))
+    settled_before =
         let before : i < length p = omega (arith, earlier_place, size, here) in
         let prefix : take (len - 1) grown ≡ p = take_at p (col ∷ []) (len - 1) (omega (arith, size)) in
-        ap (opens grown) prefix
+        ap (λ b. b && not (opens p p)) (lt-ltb i (length p) before)
+        ∙ ap not (sym (ap (opens grown) prefix
         ∙ ap (λ c. on_some_way ex (is_open_clash ex i c (drop (i + 1) p)) voices)
-        (get_or-append p (col ∷ []) [] i before)
-        ∙ twice (opens p p)
-        ∙ sym (ap (λ b. b && not (settled_by (passing_enough ex voices) p i)) now_true
-        ∙ ap (λ b. not (b && not (opens p p))) (lt-ltb i (length p) before))
+        (get_or-append p (col ∷ []) [] i before)))
+
+    pub settles_none : false ≡ opens grown (take (len - 1) grown) → false ≡ settles_newly
+    settles_none closed =
+        sym (now_told true (settled_before ∙ ap not (sym closed)) ∙ never (not (opens grown (take len grown))))
       where
-        twice : (b : Bool) → b ≡ not (not b)
-        twice true = refl
-        twice false = refl
+        never : (b : Bool) → (b && false) ≡ false
+        never true = refl
+        never false = refl
+
+    pub settles_open : true ≡ opens grown (take (len - 1) grown) → not (opens grown (take len grown)) ≡ settles_newly
+    settles_open open_then = settles (settled_before ∙ ap not (sym open_then))
 
 -- S15 and S27 are newly settled where that is told
 pub newly-told : (n : ℕ) (ex : Exercise) (voices : ℕ) (p : List (List Cell)) (col : List Cell) (i : ℕ) → is_told_later n
@@ -183,8 +196,8 @@ module _ (n : ℕ) (ex : Exercise) (p : List (List Cell)) (col : List Cell) (i :
     as_late : Breaks ≡ (newly (settled_by (clash_enough n ex voices)) p col i && there)
     as_late = ap (λ (r : RuleRow). newly_breaks r ex voices p col i) (row_is n late)
 
-    pub unbroken : false ≡ there → false ≡ Breaks
-    unbroken h = sym (as_late ∙ and_right (newly (settled_by (clash_enough n ex voices)) p col i) there (sym h))
+    pub unbroken : newly_breaks (late_row n) ex voices p col i ≡ false → false ≡ Breaks
+    unbroken h = sym (ap (λ (r : RuleRow). newly_breaks r ex voices p col i) (row_is n late) ∙ h)
 
     -- where the newest column settles it there, it tells what stands there
     pub broken_as : newly (settled_by (clash_enough n ex voices)) p col i ≡ true → there ≡ Breaks

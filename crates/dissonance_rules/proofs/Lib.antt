@@ -1,9 +1,9 @@
 pub mod BookLaws
 pub mod ClashLaws
-pub mod ClashesKept
 pub mod EitherWay
 pub mod LatePlaces
 pub mod LateReadings
+pub mod LatestNotes
 pub mod Locality
 pub mod LowerVoices
 pub mod MixedLaws

@@ -30,7 +30,7 @@ module _ (ex : Exercise) (voices : ℕ) (p : List (List Cell)) (col : List Cell)
       ∙ (on.longer.menus i (omega (arith, here, length-append p (col ∷ [])))).full
 
   -- a voice that starts a note is there
-  is_there : (v : ℕ) → starts (cell_in (slice_index_or p i []) v) ≡ true → v < ex.voices
+  pub is_there : (v : ℕ) → starts (cell_in (slice_index_or p i []) v) ≡ true → v < ex.voices
   is_there v h =
       elim (cases_lt v ex.voices) [
         | inl there ↦ there

@@ -1,9 +1,9 @@
 pub mod Apart
 pub mod Book
 pub mod Clashes
-pub mod Clashing
 pub mod Ligatures
 pub mod Mixed
 pub mod Passing
 pub mod Rows
+pub mod Starts
 pub mod Told

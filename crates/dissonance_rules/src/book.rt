@@ -2,13 +2,13 @@
 
 ghost use Rattle.rule_law.specs.Rulebooks.{KeepsLaws};
 ghost use Rattle.dissonance_rules.specs.Book as books;
-ghost use Rattle.dissonance_rules.specs.Clashing.{IsClashesOf};
+ghost use Rattle.dissonance_rules.specs.Starts.{AreStartsOf};
 
 use crate::clashes::{breaks_clash, is_clash_settled};
-use crate::clashing::Clashes;
 use crate::dissonance::Dissonance;
 use crate::late::{is_late, is_told_later, passing_places, settles_passing};
 use crate::rows::{breaks, cost};
+use crate::starts::{LatestStarts, may_break, no_starts, note_starts};
 use crate::told::passing_left;
 use fux_grid::{Cell, Exercise, Score, VoiceSet, is_mixed, slot_of};
 use rule_law::{Form, LatePlaces, LateQuestion, Latest, NewestColumns, RuleCrate, begins_bar};
@@ -22,19 +22,19 @@ pub fn book_is_lawful()
 
 /// S15, S19, S20, S21, S27 and S28 are late, and no toll is.
 impl RuleCrate for Dissonance {
-    type Part = Clashes;
+    type Part = [LatestStarts; 4];
 
     ghost book = { books.book };
 
-    ghost is_part = { IsClashesOf };
+    ghost is_part = { λ ex p starts. AreStartsOf p starts };
 
-    fn start() -> Clashes {
-        Clashes::NONE
+    fn start() -> [LatestStarts; 4] {
+        [no_starts(), no_starts(), no_starts(), no_starts()]
     }
 
     #[inline]
-    fn note(part: &mut Clashes, ex: &Exercise, i: usize, column: &[Cell]) {
-        part.note(ex, i, column);
+    fn note(part: &mut [LatestStarts; 4], _ex: &Exercise, i: usize, column: &[Cell]) {
+        note_starts(part, i, column);
     }
 
     #[inline(always)]
@@ -77,7 +77,7 @@ impl RuleCrate for Dissonance {
     }
 
     fn breaks_late(
-        part: &Clashes,
+        part: &[LatestStarts; 4],
         newest: &NewestColumns,
         rule: u8,
         ex: &Exercise,
@@ -90,7 +90,7 @@ impl RuleCrate for Dissonance {
         if !is_told_later(rule) {
             return breaks_clash(newest, rule, ex, place, voices);
         }
-        if !part.may_break(place) {
+        if !may_break(part, newest.len, rule, ex, voices, place) {
             return false;
         }
         if !settles_passing(newest, ex, voices, place) {
@@ -120,7 +120,7 @@ impl RuleCrate for Dissonance {
 
     #[inline(always)]
     fn breaks_at_once(
-        _part: &Clashes,
+        _part: &[LatestStarts; 4],
         rule: u8,
         ex: &Exercise,
         voices: VoiceSet,
@@ -134,7 +134,7 @@ impl RuleCrate for Dissonance {
 
     #[inline(always)]
     fn cost_at_once(
-        _part: &Clashes,
+        _part: &[LatestStarts; 4],
         toll: u8,
         ex: &Exercise,
         i: usize,

@@ -112,11 +112,11 @@ pub(crate) fn settles_passing(
     requires place { place < newest.now.len }
     ensures { TellsPassing ex.now voices.bits newest.now place result }
 {
-    if is_passing_open(newest, ex, place, newest.len, voices) {
+    if newest.len == place + 1 {
+        return !is_passing_open(newest, ex, place, newest.len, voices);
+    }
+    if !is_passing_open(newest, ex, place, newest.len - 1, voices) {
         return false;
     }
-    if place + 1 == newest.len {
-        return true;
-    }
-    is_passing_open(newest, ex, place, newest.len - 1, voices)
+    !is_passing_open(newest, ex, place, newest.len, voices)
 }

@@ -4,20 +4,20 @@
 mod apart;
 mod book;
 mod clashes;
-mod clashing;
 mod dissonance;
 mod late;
 mod ligatures;
 mod mixed;
 mod passing;
 mod rows;
+mod starts;
 mod told;
 
 pub use apart::are_apart;
 pub use book::book_is_lawful;
 pub use clashes::{breaks_clash, is_clash_settled};
-pub use clashing::Clashes;
 pub use dissonance::Dissonance;
 pub use ligatures::{is_bad_suspension, is_suspended, is_unprepared, resolves};
 pub use passing::{falls_by_step, is_cambiata, is_good, is_neighbor, is_passing, starts_in_clash};
 pub use rows::{breaks, clash_at_start, cost};
+pub use starts::LatestStarts;

@@ -76,7 +76,7 @@ pub fn is_cambiata(
 }
 
 /// Whether neighbors and cambiatas are good too.
-fn has_ornaments(species: u8) -> bool
+pub(crate) fn has_ornaments(species: u8) -> bool
     ensures { result ≡ words.has_ornaments species }
 {
     species == 3 || species == 5
@@ -117,7 +117,7 @@ fn clashes_within_bar(i: usize, now: &[Cell], v: usize, w: usize) -> bool
 
 /// Whether so many columns have one of the last bar.
 #[inline]
-fn reaches_last_bar(ex: &Exercise, columns: usize) -> bool
+pub(crate) fn reaches_last_bar(ex: &Exercise, columns: usize) -> bool
     requires { IsValid ex.now }
     ensures { result ≡ nat_lt (8 * (ex.now.bars - 1)) columns }
 {

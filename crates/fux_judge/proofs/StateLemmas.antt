@@ -4,12 +4,12 @@ use Rattle.fux_grid.specs.declared.cell.Cell.{Cell}
 use Rattle.fux_grid.specs.declared.exercise.Exercise.{Exercise}
 use Rattle.melody_rules.specs.Notes.{AreNotesOf}
 use Rattle.rhythm_cadence.specs.Parts.{IsShapesOf}
-use Rattle.dissonance_rules.specs.Clashing.{IsClashesOf}
+use Rattle.dissonance_rules.specs.Starts.{AreStartsOf}
 use Rattle.fux_judge.specs.declared.past.Past.{Past}
 use Rattle.fux_judge.specs.States.{IsPastOf}
 
 pub parts_of : {ex : Exercise} {p : List (List Cell)} {past : Past} → IsPastOf ex p past
     → AreNotesOf (reverse p) past.parts.first
-    × (⊤ × (IsClashesOf ex p past.parts.second.second.first
+    × (⊤ × (AreStartsOf p past.parts.second.second.first
     × (IsShapesOf ex p past.parts.second.second.second.first × ⊤)))
 parts_of is = (is.melody, (tt, (is.dissonance, (is.rhythm, tt))))

@@ -6,16 +6,16 @@ use Rattle.rule_law.specs.Newest.{AreNewestOf}
 use Rattle.rule_law.specs.Prefixes.{GoesOn}
 use Rattle.melody_rules.specs.Notes.{AreNotesOf}
 use Rattle.rhythm_cadence.specs.Parts.{IsShapesOf}
-use Rattle.dissonance_rules.specs.Clashing.{IsClashesOf}
+use Rattle.dissonance_rules.specs.Starts.{AreStartsOf}
 use Rattle.fux_judge.specs.declared.past.Past.{Past}
 use Rattle.fux_judge.specs.declared.state.State.{State}
 use Rattle.fux_judge.specs.GaugeStates.{AreAheadOf, AreGaugesOf}
 
--- the crates' parts are of the columns: the notes of each voice for melody, in which columns notes
--- clash anew for dissonance, the shapes of the newest bar for rhythm
+-- the crates' parts are of the columns: the notes of each voice for melody, where its latest ones
+-- start for dissonance, the shapes of the newest bar for rhythm
 pub record IsPastOf (ex : Exercise) (p : List (List Cell)) (past : Past) : Type 0 where
   pub melody : AreNotesOf (reverse p) past.parts.first
-  pub dissonance : IsClashesOf ex p past.parts.second.second.first
+  pub dissonance : AreStartsOf p past.parts.second.second.first
   pub rhythm : IsShapesOf ex p past.parts.second.second.second.first
 
 -- the state is of the prefix: it knows its length and its newest columns, and what the crates keep

@@ -14,11 +14,8 @@ returns-then-not-is_told_later c = λ late p col part newest on among.
 
 pub returns-then-not-may_break : goal.returns-then-not-may_break
 returns-then-not-may_break c = λ late p col part newest on among.
-    let is = kept_around c.args.rule c.args.ex.now p col c.args.place on c.args.newest.now newest late among in
     unbroken c.args.rule c.args.ex.now p col c.args.place on c.args.voices.bits late
-    (sym (c.may_break.ensures c.args.ex.now (p ++ col ∷ []) part
-    (omega (arith, c.if-place-newest.false, newest.count)) (omega (arith, is.near))
-    c.if-not-may_break.true c.args.rule c.args.voices.bits (sym c.is_told_later.ensures ∙ c.if-not-is_told_later.false)))
+    (c.may_break.ensures p col part on newest.count c.if-not-may_break.true)
 
 pub returns-then-not-settles_passing : goal.returns-then-not-settles_passing
 returns-then-not-settles_passing c = λ late p col part newest on among.

@@ -1,0 +1,10 @@
+use Rattle.std.proofs.Common.{ℕ, []}
+use Rattle.rule_law.proofs.FourLemmas.{each_of_four}
+use Rattle.dissonance_rules.specs.declared.starts.LatestStarts.{LatestStarts}
+use Rattle.dissonance_rules.specs.Starts.{IsStartsOf}
+use Rattle.dissonance_rules.proofs.book.DissonanceRuleCrate.start.Goals as goal
+
+pub returns : goal.returns
+returns c = λ ex.
+    each_of_four (λ (v : ℕ) (kept : LatestStarts). IsStartsOf [] v kept) _ _ _ _
+    (c.no_starts.ensures 0) (c.no_starts-2.ensures 1) (c.no_starts-3.ensures 2) (c.no_starts-4.ensures 3)
