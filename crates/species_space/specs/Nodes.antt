@@ -2,7 +2,7 @@
 use Rattle.std.specs.Prelude.{◌≡◌, ℕ, ◌*◌, ◌≤◌, Bool, true, List, [], Option, length, reverse, slice_index_or}
 use Rattle.fux_grid.specs.declared.cell.Cell.{Cell}
 use Rattle.fux_grid.specs.declared.exercise.Exercise.{Exercise}
-use Rattle.fux_grid.specs.Columns.{newest_column}
+use Rattle.fux_grid.specs.Columns.{ColumnFollows, Columns, newest_column}
 use Rattle.fux_grid.specs.Menus.{menu_of}
 use Rattle.penalty_sheet.specs.declared.sheet.Sheet.{Sheet}
 use Rattle.fux_judge.specs.Gauges.{least_of}
@@ -34,19 +34,27 @@ abbrev pub PassesOver : Bool → Exercise → Sheet → Node → Option ℕ → 
 PassesOver chained ex sheet node best from to =
     (path : List ℕ) → IsNodeOf ex sheet node path → ArePassed chained ex sheet path best from to
 
--- the column is the last one of the prefix, at whatever path the node stands
-abbrev pub ComesBefore : Exercise → Sheet → Node → List Cell → Type 0
-ComesBefore ex sheet node before =
-    (path : List ℕ) → IsNodeOf ex sheet node path → before ≡ newest_column (reverse (prefix_at ex path))
+-- the column is the last one of the prefix, whatever prefix the node's state is of
+abbrev pub ComesBefore : Exercise → Node → List Cell → Type 0
+ComesBefore ex node before = (p : Columns) → IsStateOf ex p node.state → before ≡ newest_column (reverse p)
 
--- what is told of the child of a number: its column is sound, and where nothing is relaxed it keeps
--- the rules of melody, S16 and S17 behind the node's prefix
+-- the column follows that one
+abbrev pub FollowsBehind : Exercise → Node → List Cell → Type 0
+FollowsBehind ex node col = (p : Columns) → IsStateOf ex p node.state → ColumnFollows (newest_column (reverse p)) col
+
+-- what is told of a column behind a node: it follows the last one of the prefix, is sound, and where
+-- nothing is relaxed it keeps the rules of melody, S16 and S17
+pub record IsToldBehind (ex : Exercise) (node : Node) (col : List Cell) : Type 0 where
+  pub kept : IsToldColumn ex node.state col
+  pub follows : FollowsBehind ex node col
+
+-- what is told of the child of a number
 abbrev pub IsTold : Exercise → Node → ℕ → Type 0
-IsTold ex node k = IsToldColumn ex node.state (slice_index_or (menu_of ex node.state.newest.len) k [])
+IsTold ex node k = IsToldBehind ex node (slice_index_or (menu_of ex node.state.newest.len) k [])
 
 -- the same of the column of a number in a menu
 abbrev pub IsToldIn : Exercise → Node → MenuView → ℕ → Type 0
-IsToldIn ex node menu k = IsToldColumn ex node.state (slice_index_or (columns_seen menu) k [])
+IsToldIn ex node menu k = IsToldBehind ex node (slice_index_or (columns_seen menu) k [])
 
 -- its first cells keep these rules
 abbrev pub IsFairIn : ℕ → Exercise → Node → MenuView → ℕ → Type 0

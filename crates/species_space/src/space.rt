@@ -1,7 +1,9 @@
 //! The tree of the settings of an exercise.
 
-ghost use Rattle.std.specs.Prelude.{◌≡◌, ◌<◌, ◌≤◌, ◌+◌, ◌^◌, Bool, [], Some, None, OnOk, IfOk, IfErr, IfSome, IfNone, IsTrue, length, slice_index_or};
+ghost use Rattle.std.specs.Prelude.{◌≡◌, ◌<◌, ◌≤◌, ◌+◌, ◌^◌, Bool, [], reverse, Some, None, OnOk, IfOk, IfErr, IfSome, IfNone, IsTrue, length, slice_index_or};
+ghost use Rattle.fux_grid.specs.Columns.{ColumnFollows, Columns, newest_column};
 ghost use Rattle.fux_grid.specs.Exercises.{IsValid, columns_in};
+ghost use Rattle.fux_judge.specs.States.{IsStateOf};
 ghost use Rattle.fux_grid.specs.Grid.{items_of};
 ghost use Rattle.fux_grid.specs.Menus.{menu_of};
 ghost use Rattle.std.specs.Bool.{OnFalse};
@@ -9,7 +11,7 @@ ghost use Rattle.species_space.specs.Blocks.{AreBlocksOf, AreSound, AreUndead};
 ghost use Rattle.floor_tables.specs.Tables.{AreNarrow, IsRest, TellsWidth};
 ghost use Rattle.fux_judge.specs.Late.{HaveNoPlace};
 ghost use Rattle.species_space.specs.Grows.{paths_grow};
-ghost use Rattle.species_space.specs.Nodes.{IsNodeOf, IsTold};
+ghost use Rattle.species_space.specs.Nodes.{FollowsBehind, IsNodeOf, IsTold};
 ghost use Rattle.species_space.specs.Chained.{IsRestWith};
 ghost use Rattle.species_space.specs.Paths.{live_at, live_with, width_at};
 ghost use Rattle.species_space.specs.Task.{AreMenus, IsViewOf, IsReady};
@@ -316,6 +318,22 @@ fn menus_of(
     Ok(menus)
 }
 
+/// Whether a column follows the last one of a node's prefix, which isn't asked where it is told.
+#[inline]
+fn follows(exercise: &Exercise, told: bool, node: &Node, column: &Column) -> bool
+    requires few { exercise.now.voices ≤ 4 }
+    requires told { IsTrue told → FollowsBehind exercise.now node.now column.now.items }
+    ensures follows { IsTrue result → FollowsBehind exercise.now node.now column.now.items }
+    ensures strays { (p : Columns) → IsStateOf exercise.now p node.now.state → OnFalse result
+        (ColumnFollows (newest_column (reverse p)) column.now.items → ⊥) }
+{
+    if told {
+        return true;
+    }
+    let before = node.state.before(exercise);
+    cells_follow(before, column.as_slice())
+}
+
 /// The floor of the child of this number and column, where the column follows and settles no strict
 /// break: what is to come behind it costs `rest` at least. Late rules that are known to have no
 /// place there aren't asked, nor what is told of the child. The child is written into the place that
@@ -344,8 +362,7 @@ pub(crate) fn child_by(
         IsMadeChild (IsNodeOf exercise.now sheet.now) (live_with chained exercise.now sheet.now) k
         node.now child.new result }
 {
-    let before = node.state.before(exercise);
-    if !cells_follow(before, column.as_slice()) {
+    if !follows(exercise, told, node, column) {
         return None;
     }
     let next = &mut child.state;

@@ -3,6 +3,7 @@
 
 ghost use Rattle.std.specs.Prelude.{◌≡◌, ◌<◌, ◌≤◌, ◌+◌, ◌^◌, ℕ, Bool, false, [], IfNone, IfSome, IsSomeAnd, length, slice_index_or};
 ghost use Rattle.std.specs.Bool.{OnFalse};
+ghost use Rattle.fux_grid.specs.Columns.{ColumnFollows};
 ghost use Rattle.fux_grid.specs.Exercises.{IsValid, columns_in};
 ghost use Rattle.fux_grid.specs.Menus.{menu_of};
 ghost use Rattle.rule_law.specs.Bars.{begins_bar};
@@ -29,6 +30,8 @@ pub fn next_choice(menu: &MenuView<'_>, before: &[Cell], from: usize, hint: usiz
     ensures passed { PassesDead menu.now before.now from result }
     ensures unskipped { result < length (columns_seen menu.now) → IsUnskipped menu.now.undead.now
         result }
+    ensures follows { result < length (columns_seen menu.now) → ColumnFollows before.now
+        (slice_index_or (columns_seen menu.now) result []) }
 {
     let mut k = menu.next_that_follows(before, from, hint);
     while k < menu.len() {
@@ -162,7 +165,7 @@ fn next_held<R: Rests>(
     requires rests { R.task rests.now ≡ record { exercise = exercise.now; sheet = sheet.now } }
     requires node { IsInner (IsNodeOf exercise.now sheet.now node.now) (columns_in exercise.now) }
     requires menu { IsViewOf exercise.now node.now.state.newest.len menu.now }
-    requires before { ComesBefore exercise.now sheet.now node.now before.now }
+    requires before { ComesBefore exercise.now node.now before.now }
     requires held { IsHeldNext menu.now before.now node.now.hint }
     requires inner { begins_bar node.now.state.newest.len ≡ false }
     requires within { from ≤ length (columns_seen menu.now) }

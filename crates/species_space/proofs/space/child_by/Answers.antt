@@ -1,15 +1,17 @@
-use Rattle.std.proofs.Common.{◌≡◌, ℕ, ◌+◌, ◌<◌, List, [], ◌∷◌, length, slice_index_or, true≢false, refl, ap, sym, ◌∙◌, subst, arith}
+use Rattle.std.proofs.Common.{◌≡◌, ℕ, ◌+◌, ◌<◌, List, [], ◌∷◌, length, reverse, slice_index_or, refl, ap, sym, ◌∙◌, subst, arith}
 use Rattle.std.specs.List.{list_any}
+use Rattle.std.proofs.lemmas.Bool.{OnFalse_at}
 use Rattle.std.proofs.lemmas.List.Elements.{Contains-get_or}
 use Rattle.fux_grid.specs.declared.cell.Cell.{Cell}
 use Rattle.fux_grid.specs.declared.exercise.Exercise.{Exercise}
-use Rattle.fux_grid.specs.Columns.{ColumnFollows}
+use Rattle.fux_grid.specs.Columns.{ColumnFollows, newest_column}
 use Rattle.fux_grid.specs.Exercises.{columns_in}
 use Rattle.fux_grid.specs.Menus.{IsInMenu, menu_of}
 use Rattle.fux_grid.proofs.MenuLemmas.{menu_of-contains, menu_of-full}
 use Rattle.fux_judge.specs.Pruning.{IsToldColumn}
 use Rattle.fux_judge.specs.Rules.{rules_read}
 use Rattle.fux_judge.specs.Penalties.{newly_broken}
+use Rattle.species_space.specs.Nodes.{FollowsBehind}
 use Rattle.species_space.specs.Paths.{prefix_at, column_at, width_at}
 use Rattle.rule_law.specs.Prefixes.{GoesOn}
 use Rattle.species_space.proofs.Alive.{goes_on_from}
@@ -21,19 +23,17 @@ abbrev chosen : (ex : Exercise) (path : List ℕ) (k n : ℕ) (items : List Cell
     ≡ slice_index_or (menu_of ex n) k [] → items ≡ column_at ex path k
 chosen ex path k n items e f = f ∙ ap (λ i. slice_index_or (menu_of ex i) k []) e
 
-pub returns-then-not-cells_follow : goal.returns-then-not-cells_follow
-returns-then-not-cells_follow c = λ chained is path at.
+pub returns-then-not-follows : goal.returns-then-not-follows
+returns-then-not-follows c = λ chained is path at.
     let ex = c.args.exercise.now in
     let k = c.args.k in
-    let same = c.as_slice.ensures.value ∙ chosen ex path k c.args.node.now.state.newest.len c.args.column.now.items
+    let before = newest_column (reverse (prefix_at ex path)) in
+    let same = chosen ex path k c.args.node.now.state.newest.len c.args.column.now.items
     (as_long ex c.args.sheet.now c.args.node.now path at) c.requires.column in
     strays ex path k at.alive chained c.args.sheet.now
-    (λ follows.
-    let P : List Cell → List Cell → Type 0 = λ b n. ColumnFollows b n in
-    let there : ColumnFollows c.before-before.result.now c.as_slice.result.now = subst (P c.before-before.result.now)
-    (sym same) (subst (λ b. P b (column_at ex path k)) (sym (c.before-before.ensures (prefix_at ex path) at.state))
-    follows) in
-    true≢false (sym (c.cells_follow.ensures.1 there) ∙ c.if-not-cells_follow.true))
+    (λ there.
+    OnFalse_at c.if-not-follows.true (c.follows.ensures.strays (prefix_at ex path) at.state)
+    (subst (λ (col : List Cell). ColumnFollows before col) (sym same) there))
 
 pub step_unbroken-requires-clause-room : goal.step_unbroken-requires-clause-room
 step_unbroken-requires-clause-room c =
@@ -51,7 +51,12 @@ step_unbroken-requires-clause-full c =
 pub step_unbroken-requires-clause-told : goal.step_unbroken-requires-clause-told
 step_unbroken-requires-clause-told c = λ yes.
     subst (λ (col : List Cell). IsToldColumn c.args.exercise.now c.args.node.now.state col)
-    (sym c.requires.column) (c.requires.told yes)
+    (sym c.requires.column) (c.requires.told yes).kept
+
+pub follows-requires-clause-told : goal.follows-requires-clause-told
+follows-requires-clause-told c = λ yes.
+    subst (λ (col : List Cell). FollowsBehind c.args.exercise.now c.args.node.now col)
+    (sym c.requires.column) (c.requires.told yes).follows
 
 pub step_unbroken-requires-clause-menu : goal.step_unbroken-requires-clause-menu
 step_unbroken-requires-clause-menu c = λ yes.
@@ -79,9 +84,8 @@ returns-in_default c = λ chained is path at.
     let room : length path < columns_in ex = omega (arith, long, longer, child.above) in
     let same_length : length child.path ≡ length path = sym longer ∙ long in
     let within : k < width_at ex path = subst (λ n. k < length (menu_of ex n)) same_length child.within in
-    let there = subst (λ b. ColumnFollows b (column_at ex path k)) (c.before-before.ensures p at.state)
-    (subst (ColumnFollows c.before-before.result.now) (c.as_slice.ensures.value ∙ same)
-    (c.cells_follow.ensures.0 c.if-not-cells_follow.false)) in
+    let there = subst (λ (col : List Cell). ColumnFollows (newest_column (reverse p)) col) same
+    (c.follows.ensures.follows c.if-not-follows.false p at.state) in
     let comes = subst (λ col. GoesOn ex p (col ∷ [])) (sym same)
     (goes_on_from ex path k c.requires.valid.most_voices at.alive room within there) in
     breaks ex path k at.alive chained c.args.sheet.now
@@ -100,10 +104,8 @@ returns c = λ chained is path at.
     let same_length : length child.path ≡ length path = sym longer ∙ long in
     let within : k < width_at ex path = subst (λ n. k < length (menu_of ex n)) same_length child.within in
     let same = chosen ex path k c.args.node.now.state.newest.len c.args.column.now.items long c.requires.column in
-    let before = c.before-before.ensures p at.state in
-    let there = subst (λ b. ColumnFollows b (column_at ex path k)) before
-    (subst (ColumnFollows c.before-before.result.now) (c.as_slice.ensures.value ∙ same)
-    (c.cells_follow.ensures.0 c.if-not-cells_follow.false)) in
+    let there = subst (λ (col : List Cell). ColumnFollows (newest_column (reverse p)) col) same
+    (c.follows.ensures.follows c.if-not-follows.false p at.state) in
     let comes = subst (λ col. GoesOn ex p (col ∷ [])) (sym same)
     (goes_on_from ex path k c.requires.valid.most_voices at.alive room within there) in
     let unbroken = ap (λ col. list_any (newly_broken ex p col) rules_read) (sym same)

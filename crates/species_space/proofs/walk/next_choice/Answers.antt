@@ -9,6 +9,7 @@ loop-k-init c =
     record {
       onward = next.onward;
       within = next.within;
+      follows = next.follows;
       passed = λ ex i skip j le lt follows. absurd (next.passed j le lt follows);
     }
 
@@ -43,6 +44,7 @@ loop-k-preserved c =
     record {
       onward = omega (arith, c.loop-k.invariant.onward, c.if-undead-k.false, next.onward);
       within = next.within;
+      follows = next.follows;
       passed = λ ex i skip.
           let P : ℕ → Type 0 = λ j. StraysOrDies ex i c.args.before.now (slice_index_or menu j []) in
           passed_on P c.args.from k to (c.loop-k.invariant.passed ex i skip)
@@ -63,3 +65,9 @@ returns-then-undead-k-clause-unskipped c = λ lt there.
 
 pub returns-clause-unskipped : goal.returns-clause-unskipped
 returns-clause-unskipped c = λ lt. absurd (omega (arith, lt, c.loop-k-test.false, c.len.ensures))
+
+pub returns-then-undead-k-clause-follows : goal.returns-then-undead-k-clause-follows
+returns-then-undead-k-clause-follows c = c.loop-k.invariant.follows
+
+pub returns-clause-follows : goal.returns-clause-follows
+returns-clause-follows c = c.loop-k.invariant.follows

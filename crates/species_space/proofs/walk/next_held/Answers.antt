@@ -1,4 +1,6 @@
-use Rattle.std.proofs.Common.{◌<◌, ℕ, inl, inr, List, [], length, sym, subst, arith}
+use Rattle.std.proofs.Common.{◌<◌, ℕ, inl, inr, List, [], length, slice_index_or, sym, subst, arith}
+use Rattle.fux_grid.specs.declared.cell.Cell.{Cell}
+use Rattle.fux_grid.specs.Columns.{ColumnFollows}
 use Rattle.std.proofs.lemmas.Bool.{OnFalse_at, cases_eq}
 use Rattle.fux_grid.specs.Exercises.{IsValid}
 use Rattle.fux_grid.specs.Menus.{menu_of}
@@ -26,7 +28,7 @@ returns-then-from-hint-clause-passed g c = λ path at j le lt.
     let cut = c.requires.menu.cut in
     other_no_better c.args.exercise.now c.args.sheet.now c.args.node.now path at (columns_seen c.args.menu.now)
     c.args.node.now.hint j g.R.Rests.chained c.args.best c.args.before.now c.requires.menu.columns
-    (c.requires.before path at) (cut.holds held.1) cut.order cut.full held.0 held.2
+    (c.requires.before _ at.state) (cut.holds held.1) cut.order cut.full held.0 held.2
     (omega (arith, lt, c.len.ensures)) (λ same. omega (arith, same, le, c.if-from-hint.true))
 
 pub returns-then-not-may_be_better-clause-passed : goal.returns-then-not-may_be_better-clause-passed
@@ -44,7 +46,7 @@ returns-then-not-may_be_better-clause-passed g c = λ path at j le lt.
           (sym same) here
       | inr differ ↦ other_no_better c.args.exercise.now c.args.sheet.now c.args.node.now path at
           (columns_seen c.args.menu.now) hint j g.R.Rests.chained c.args.best c.args.before.now
-          c.requires.menu.columns (c.requires.before path at) (cut.holds held.1) cut.order cut.full held.0 held.2
+          c.requires.menu.columns (c.requires.before _ at.state) (cut.holds held.1) cut.order cut.full held.0 held.2
           (omega (arith, lt, c.len-then-not-may_be_better.ensures)) differ
     ]
 
@@ -54,7 +56,7 @@ returns-clause-passed g c = λ path at j le lt.
     let cut = c.requires.menu.cut in
     other_no_better c.args.exercise.now c.args.sheet.now c.args.node.now path at (columns_seen c.args.menu.now)
     c.args.node.now.hint j g.R.Rests.chained c.args.best c.args.before.now c.requires.menu.columns
-    (c.requires.before path at) (cut.holds held.1) cut.order cut.full held.0 held.2
+    (c.requires.before _ at.state) (cut.holds held.1) cut.order cut.full held.0 held.2
     (omega (arith, lt, held.0)) (λ same. omega (arith, same, lt))
 
 pub returns-clause-within : goal.returns-clause-within
@@ -70,5 +72,9 @@ returns-then-not-may_be_better-clause-told g c = λ lt.
 pub returns-clause-told : goal.returns-clause-told
 returns-clause-told g c = λ lt.
     let held = c.requires.held in
-    held_told c.args.exercise.now c.args.node.now.state _ c.requires.inner
-    (c.requires.menu.cut.holds held.1 c.args.node.now.hint [] lt)
+    let col = slice_index_or (columns_seen c.args.menu.now) c.args.node.now.hint [] in
+    record {
+      kept = held_told c.args.exercise.now c.args.node.now.state col c.requires.inner
+          (c.requires.menu.cut.holds held.1 c.args.node.now.hint [] lt);
+      follows = λ p is. subst (λ (b : List Cell). ColumnFollows b col) (c.requires.before p is) held.2;
+    }

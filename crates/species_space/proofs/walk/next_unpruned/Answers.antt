@@ -1,4 +1,6 @@
-use Rattle.std.proofs.Common.{ℕ, ◌<◌, [], length, slice_index_or, ap, ◌∙◌, subst, arith}
+use Rattle.std.proofs.Common.{ℕ, ◌<◌, List, [], length, slice_index_or, ap, ◌∙◌, subst, arith}
+use Rattle.fux_grid.specs.declared.cell.Cell.{Cell}
+use Rattle.fux_grid.specs.Columns.{ColumnFollows}
 use Rattle.fux_grid.proofs.MenuLemmas.{menu_of-full}
 use Rattle.species_space.specs.Blocks.{columns_seen}
 use Rattle.species_space.specs.Paths.{IsNoBetter}
@@ -8,7 +10,7 @@ use Rattle.species_space.proofs.WalkSteps.{column_of_menu, stray_no_better}
 use Rattle.species_space.proofs.walk.next_unpruned.Goals as goal
 
 pub next_held-requires-clause-before : goal.next_held-requires-clause-before
-next_held-requires-clause-before g c = λ path at. c.before-before.ensures _ at.state
+next_held-requires-clause-before g c = c.before-before.ensures
 
 pub next_held-requires-clause-held : goal.next_held-requires-clause-held
 next_held-requires-clause-held g c = c.goes_on.ensures.held c.if-goes_on.true
@@ -33,7 +35,8 @@ loop-k-init g c =
           ∙ menu_of-full ex node.state.newest.len j []
           (subst (λ cols. j < length cols) c.requires.menu.columns (omega (arith, e, c.requires.within))))
           c.alike_before-tried.ensures.none c.alike_before-tried.ensures.alike
-          (λ j e. (c.requires.before j e).fair);
+          (λ j e. (c.requires.before j e).kept.fair);
+      follows = next.follows;
       unskipped = next.unskipped;
       passed = λ path at j le lt.
           stray_no_better ex sheet node path at j g.R.Rests.chained c.args.best c.before-before.result.now
@@ -84,6 +87,7 @@ loop-k-preserved g c =
             omega (arith, lt, c.min-tried.ensures, c.in-Some.sound-is),
             omega (arith, lt, c.min-tried.ensures, c.in-Some.sound-is),
           ));
+      follows = next.follows;
       unskipped = next.unskipped;
       passed = λ path at.
           let P : ℕ → Type 0 = λ j. IsNoBetter g.R.Rests.chained ex sheet path c.args.best j in
@@ -107,10 +111,17 @@ pub returns-clause-passed : goal.returns-clause-passed
 returns-clause-passed g c = c.loop-k.invariant.passed
 
 pub returns-in_default-clause-told : goal.returns-in_default-clause-told
-returns-in_default-clause-told g c = λ lt. record {
-  fair = c.in_default.ensures.fair;
-  sound = c.requires.menu.skip.sound c.loop-k.k lt (c.loop-k.invariant.unskipped lt);
-}
+returns-in_default-clause-told g c = λ lt.
+    let col = slice_index_or (columns_seen c.args.menu.now) c.loop-k.k [] in
+    record {
+      kept = record {
+        fair = c.in_default.ensures.fair;
+        sound = c.requires.menu.skip.sound c.loop-k.k lt (c.loop-k.invariant.unskipped lt);
+      };
+      follows = λ p is.
+          subst (λ (b : List Cell). ColumnFollows b col) (c.before-before.ensures p is)
+          (c.loop-k.invariant.follows lt);
+    }
 
 pub returns-clause-told : goal.returns-clause-told
 returns-clause-told g c = λ lt. absurd (omega (arith, lt, c.loop-k-test.false, c.len.ensures))

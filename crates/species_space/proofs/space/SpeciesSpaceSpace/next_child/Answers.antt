@@ -3,10 +3,9 @@ use Rattle.fux_grid.specs.declared.cell.Cell.{Cell}
 use Rattle.fux_grid.specs.Exercises.{columns_in}
 use Rattle.fux_grid.specs.Menus.{menu_of}
 use Rattle.floor_tables.specs.Tables.{Task}
-use Rattle.fux_judge.specs.Pruning.{IsToldColumn}
 use Rattle.tree_search.specs.Space.{IsInner}
 use Rattle.species_space.specs.Blocks.{columns_seen}
-use Rattle.species_space.specs.Nodes.{IsNodeOf, IsTold}
+use Rattle.species_space.specs.Nodes.{IsNodeOf, IsTold, IsToldBehind}
 use Rattle.species_space.specs.Task.{IsViewOf}
 use Rattle.species_space.specs.Paths.{ArePassed, prefix_at, length-columns_on}
 use Rattle.species_space.proofs.space.SpeciesSpaceSpace.next_child.Goals as goal
@@ -61,7 +60,7 @@ next_unpruned-requires-clause-before c = λ j e.
     let columns = subst
     (λ (t : Task). columns_seen c.menu-menu.result ≡ menu_of t.exercise state.newest.len) (sym c.self.view_is)
     (c.menu-menu.ensures.columns ∙ ap (menu_of c.args.self.now.exercise) same) in
-    subst (λ (cols : List (List Cell)). IsToldColumn c.self.inside.exercise.now state (slice_index_or cols j []))
+    subst (λ (cols : List (List Cell)). IsToldBehind c.self.inside.exercise.now c.args.node.now (slice_index_or cols j []))
     (sym columns) (subst (λ (t : Task). IsTold t.exercise c.args.node.now j) (sym c.self.view_is) (c.requires.before j e))
 
 pub returns-clause-told : goal.returns-clause-told
@@ -79,5 +78,5 @@ returns-clause-told c = λ path at lt.
     (subst (λ (t : Task). c.next_unpruned.result < length (menu_of t.exercise state.newest.len)) (sym c.self.view_is)
     (subst (λ (n : ℕ). c.next_unpruned.result < length (menu_of ex n)) there lt)) in
     subst (λ (t : Task). IsTold t.exercise node c.next_unpruned.result) c.self.view_is
-    (subst (λ (cols : List (List Cell)). IsToldColumn c.self.inside.exercise.now state (slice_index_or cols c.next_unpruned.result []))
+    (subst (λ (cols : List (List Cell)). IsToldBehind c.self.inside.exercise.now c.args.node.now (slice_index_or cols c.next_unpruned.result []))
     columns (c.next_unpruned.ensures.told within))
