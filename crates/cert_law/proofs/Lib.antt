@@ -1,3 +1,4 @@
+pub mod AloneLemmas
 pub mod BreakLemmas
 pub mod CostBounds
 pub mod EntryLemmas

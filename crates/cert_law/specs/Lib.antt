@@ -1,3 +1,4 @@
+pub mod Alone
 pub mod Bases
 pub mod Cases
 pub mod Certificates

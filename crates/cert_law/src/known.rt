@@ -7,4 +7,6 @@ use crate::judged::Judged;
 pub struct PrefixKnown {
     pub judged: Judged,
     pub tail: Option<u64>,
+    /// The number of its last column in the menu of its place.
+    pub number: usize,
 }

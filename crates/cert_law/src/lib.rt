@@ -3,6 +3,7 @@
 //! The writer and the checker of certificates both stand on this. It knows nothing of the search.
 #![tactic(auto)]
 
+mod alone;
 mod case;
 mod entries;
 mod judged;
@@ -13,6 +14,7 @@ mod tailed;
 mod tails;
 mod truth;
 
+pub use alone::AloneTables;
 pub use case::Case;
 pub use entries::true_entries_are_low;
 pub use judged::Judged;

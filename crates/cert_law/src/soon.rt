@@ -2,6 +2,7 @@
 
 ghost use Rattle.std.specs.Prelude.{◌≡◌, ◌<◌, ◌==◌, IfSome, length};
 ghost use Rattle.std.specs.Bool.{OnTrue};
+ghost use Rattle.cert_law.specs.Alone.{IsAlone};
 ghost use Rattle.cert_law.specs.Cases.{IsCase, matter_of};
 ghost use Rattle.cert_law.specs.Soon.{TellsBreak, TellsLeast, has_length as has_so_many};
 ghost use Rattle.fux_grid.specs.Exercises.{columns_in};
@@ -23,11 +24,18 @@ fn has_length(case: &Case<'_>, count: usize) -> bool
 }
 
 /// The least rule that is broken in a prefix with a column more, where it is soon told and that
-/// isn't as long as the head's setting.
-pub fn told_break(case: &Case<'_>, judged: &Judged, column: &Column) -> Option<u8>
+/// isn't as long as the head's setting. The least one that the column breaks by itself may be given.
+pub fn told_break(
+    case: &Case<'_>,
+    judged: &Judged,
+    column: &Column,
+    alone: Option<u8>,
+) -> Option<u8>
     requires case { IsCase (matter_of case.now) }
     requires room { judged.now.state.newest.len < columns_in case.now.exercise.now }
     requires full { length column.now.items ≡ case.now.exercise.now.voices }
+    requires alone { IsAlone case.now.exercise.now judged.now.state.newest.len column.now.items
+        alone }
     ensures { IfSome result (TellsLeast (matter_of case.now) judged.now column.now.items) }
 {
     let broken = judged.broken.bits;
@@ -37,7 +45,7 @@ pub fn told_break(case: &Case<'_>, judged: &Judged, column: &Column) -> Option<u
     if has_length(case, judged.state.newest.len + 1) {
         return None;
     }
-    if let Some(rule) = told_rule(case.exercise, &judged.state, column, None, None) {
+    if let Some(rule) = told_rule(case.exercise, &judged.state, column, alone, None) {
         return Some(rule);
     }
     None

@@ -4,7 +4,7 @@ ghost use Rattle.std.specs.Prelude.{◌≡◌, ◌↔◌, ◌<◌, ◌≤◌, �
 ghost use Rattle.cert_tree.specs.Walks.{IsNextOf, IsOfOpen};
 ghost use Rattle.cert_law.specs.Bases.{HasTails};
 ghost use Rattle.cert_law.specs.Cases.{IsCase, matter_of};
-ghost use Rattle.cert_law.specs.Known.{IsBehindKnown, IsKnown, IsKnownAfter, IsNextNumber, IsStepOf, own_in, tailed_of, tree_in, ways_of};
+ghost use Rattle.cert_law.specs.Known.{IsBehindKnown, IsKnown, IsKnownAfter, IsStepOf, own_in, tailed_of, tree_in, ways_of};
 ghost use Rattle.fux_grid.specs.Exercises.{columns_in};
 ghost use Rattle.fux_grid.specs.Menus.{menu_of};
 
@@ -16,7 +16,6 @@ use crate::tails::Tails;
 use crate::truth::{first_claim, is_open, is_true};
 use cert_text::Claim;
 use cert_tree::ClaimTree;
-use fux_grid::{Cell, cells_follow};
 use std::marker::Model;
 
 /// A case, and the tails by which its claims are judged.
@@ -37,22 +36,6 @@ impl<'a, T: Tails> Model for TailedCase<'a, T> {
     ghost invariant = { λ c. IsTailed (matter_of c.case) (T.basis c.tails.now) };
 }
 
-/// The number of the first column of a place's menu, from this number on, that follows these cells.
-fn next_number<T: Tails>(tails: &T, i: usize, before: &[Cell], from: usize) -> Option<usize>
-    requires { i < columns_in (T.basis tails.now).exercise }
-    ensures { IsNextNumber (menu_of (T.basis tails.now).exercise i) before.now from result }
-{
-    let width = tails.width(i);
-    let mut k = from;
-    while k < width {
-        if cells_follow(before, tails.column(i, k).as_slice()) {
-            return Some(k);
-        }
-        k += 1;
-    }
-    None
-}
-
 /// What is known of the empty prefix.
 fn first_known<T: Tails>(case: &Case<'_>, tails: &T) -> PrefixKnown
     requires case { IsCase (matter_of case.now) }
@@ -61,7 +44,11 @@ fn first_known<T: Tails>(case: &Case<'_>, tails: &T) -> PrefixKnown
 {
     let judged = Judged::start(case.exercise, case.sheet);
     let tail = tails.start();
-    PrefixKnown { judged, tail }
+    PrefixKnown {
+        judged,
+        tail,
+        number: 0,
+    }
 }
 
 /// What is known of a prefix with the column of a number more.
@@ -83,6 +70,7 @@ fn known_after<T: Tails>(
     PrefixKnown {
         judged: known.judged.after(case, tails.column(i, number)),
         tail: tails.behind(i, number),
+        number,
     }
 }
 
@@ -102,7 +90,7 @@ fn next_step<T: Tails>(
 {
     let i = known.judged.state.newest.len;
     let before = known.judged.state.before(case.exercise);
-    next_number(tails, i, before, from)
+    tails.next(i, before, from, known.number)
 }
 
 /// Whether no chain goes on from an open prefix with the column of a number more: nothing of it is
@@ -221,8 +209,10 @@ fn tell_with<T: Tails>(
         IsBehindKnown (tailed_of (matter_of case.now) (T.basis tails.now)) known.now number
         (IsKnown (tailed_of (matter_of case.now) (T.basis tails.now)) next)) }
 {
-    let column = tails.column(known.judged.state.newest.len, number);
-    if let Some(rule) = told_break(case, &known.judged, column) {
+    let i = known.judged.state.newest.len;
+    let column = tails.column(i, number);
+    let alone = tails.alone(i, number);
+    if let Some(rule) = told_break(case, &known.judged, column, alone) {
         return Claim::Broken(rule);
     }
     tell_whole(case, tails, known, number, found)

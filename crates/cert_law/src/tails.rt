@@ -1,12 +1,14 @@
 //! Tails: what the columns behind a prefix cost at least together.
 
 ghost use Rattle.std.specs.Prelude.{◌≡◌, ◌<◌, [], length, slice_index_or};
+ghost use Rattle.cert_law.specs.Alone.{IsAlone};
 ghost use Rattle.cert_law.specs.Bases.{Basis, IsTailBehind, tail_by};
+ghost use Rattle.cert_law.specs.Known.{IsNextNumber};
 ghost use Rattle.fux_grid.specs.Exercises.{columns_in};
 ghost use Rattle.fux_grid.specs.Menus.{menu_of};
 
 use floor_tables::Tables;
-use fux_grid::Column;
+use fux_grid::{Cell, Column, cells_follow};
 
 /// The columns of an exercise's menus, and the tail of each prefix that ends with one of them: by
 /// tables, or as entries state it.
@@ -23,6 +25,36 @@ pub trait Tails {
         requires place { i < columns_in (basis self.now).exercise }
         requires within { k < length (menu_of (basis self.now).exercise i) }
         ensures { result.now.items ≡ slice_index_or (menu_of (basis self.now).exercise i) k [] };
+
+    /// The least of the rules S10, S11, S13 and S14 that the column of a number breaks by itself,
+    /// where that was found before.
+    fn alone(&self, i: usize, k: usize) -> Option<u8>
+        requires place { i < columns_in (basis self.now).exercise }
+        requires within { k < length (menu_of (basis self.now).exercise i) }
+        ensures { IsAlone (basis self.now).exercise i
+            (slice_index_or (menu_of (basis self.now).exercise i) k []) result }
+    {
+        let _ = (i, k);
+        None
+    }
+
+    /// The number of the first column of a place's menu, from this number on, that follows these
+    /// cells. The hint is the number of a column that often does.
+    fn next(&self, i: usize, before: &[Cell], from: usize, hint: usize) -> Option<usize>
+        requires { i < columns_in (basis self.now).exercise }
+        ensures { IsNextNumber (menu_of (basis self.now).exercise i) before.now from result }
+    {
+        let _ = hint;
+        let width = self.width(i);
+        let mut k = from;
+        while k < width {
+            if cells_follow(before, self.column(i, k).as_slice()) {
+                return Some(k);
+            }
+            k += 1;
+        }
+        None
+    }
 
     /// The tail of the empty prefix.
     fn start(&self) -> Option<u64>

@@ -6,8 +6,8 @@ use Rattle.cert_law.proofs.NumberLemmas.{number_moved}
 use Rattle.fux_grid.specs.declared.exercise.Exercise.{Exercise}
 use Rattle.cert_law.proofs.tailed.next_step.Goals as goal
 
-pub next_number-requires : goal.next_number-requires
-next_number-requires g c =
+pub next-requires : goal.next-requires
+next-requires g c =
     let own = c.requires.open_node.is_open.is_of in
     let tailed = tailed_of (matter_of c.args.case.now) (g.T.Tails.basis c.args.tails.now) in
     let further = open_same tailed c.args.known.now c.requires.case c.requires.open_node c.requires.open_node.node own in
@@ -24,7 +24,7 @@ returns g c = λ p is.
     let basis = g.T.Tails.basis c.args.tails.now in
     let known = c.args.known.now in
     let further = open_same (tailed_of t basis) known c.requires.case c.requires.open_node p is in
-    next_moved t.exercise p c.args.from c.next_number.result (c.requires.tails.narrow (length p) further.shorter)
+    next_moved t.exercise p c.args.from c.next.result (c.requires.tails.narrow (length p) further.shorter)
     (number_moved basis.exercise t.exercise known.judged.state.newest.len p c.before-before.result.now
-    c.args.from c.next_number.result c.requires.tails.exercise is.judged.state.newest.count
-    (c.before-before.ensures p is.judged.state) c.next_number.ensures)
+    c.args.from c.next.result c.requires.tails.exercise is.judged.state.newest.count
+    (c.before-before.ensures p is.judged.state) c.next.ensures)
