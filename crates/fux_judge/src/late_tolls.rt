@@ -115,6 +115,7 @@ fn weighed_charges_of(toll: u8, sheet: &Sheet, ex: &Exercise, next: &State) -> u
 /// What the newest column settles of all late tolls. Each is asked by its own number, so that what
 /// depends on the number alone is settled before the program runs. Where neither a bar nor a note
 /// begins, Q16 alone may cost something. Q21 weighs nothing by the usual sheet.
+#[inline(always)]
 #[tactic(auto, unfolding(crate::specs::Rules::toll_at))]
 pub(crate) fn late_charges(sheet: &Sheet, ex: &Exercise, next: &State) -> u64
     requires valid { IsValid ex.now }

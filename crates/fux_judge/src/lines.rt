@@ -32,6 +32,7 @@ fn climax_repeats(ex: &Exercise, v: u8, i: usize, kept: &LineGauges, ahead: &Lin
 }
 
 /// What a line of a free voice costs at least that begins with these `i` cells.
+#[inline(always)]
 fn least_of_line(
     ex: &Exercise,
     sheet: &Sheet,
@@ -54,6 +55,7 @@ fn least_of_line(
 }
 
 /// What the line of a voice of a state costs at least, nothing where the voice isn't free.
+#[inline(always)]
 fn least_of_voice(ex: &Exercise, sheet: &Sheet, v: u8, state: &State) -> u64
     requires valid { IsValid ex.now }
     requires voice { v < ex.now.voices }
@@ -78,6 +80,7 @@ fn least_of_voice(ex: &Exercise, sheet: &Sheet, v: u8, state: &State) -> u64
 
 /// What the lines of the free voices cost at least, by the gauges' weights, in each setting that
 /// the state's prefix begins.
+#[inline(always)]
 pub fn least(ex: &Exercise, sheet: &Sheet, state: &State) -> u64
     requires valid { IsValid ex.now }
     requires room { state.now.newest.len ≤ columns_in ex.now }

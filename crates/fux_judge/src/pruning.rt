@@ -236,6 +236,7 @@ fn costs_too_much(limit: Option<u64>, least: u64, sheet: &Sheet, m: &Moment<'_>)
 /// spares the question. Whatever the number is, what is told of a column that is pruned holds; and
 /// where nothing is relaxed and the tried voices keep the rules of melody, and S16 and S17 with lower
 /// ones, so do those below the last one that prunes, and all where none does. It takes no memory.
+#[inline(always)]
 pub fn pruned_within(
     ex: &Exercise,
     sheet: &Sheet,

@@ -41,6 +41,7 @@ impl State {
     }
 
     /// Adds a column behind the prefix.
+    #[inline(always)]
     pub fn add(&mut self, ex: &Exercise, col: &Column)
         requires valid { IsValid ex.now }
         requires room { self.old.newest.len < columns_in ex.now }

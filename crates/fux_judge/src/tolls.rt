@@ -91,6 +91,7 @@ fn charge_of_leap(sheet: &Sheet, voices: &[VoiceNotes; 4], voice: usize, now: Ce
 
 /// What a voice's move costs by the tolls of melody: Q7 to Q10 and Q13. The cantus pays nothing,
 /// and nor does a voice that starts no note.
+#[inline(always)]
 pub(crate) fn charge_of_voice(sheet: &Sheet, m: &Moment<'_>, voice: usize) -> u64
     requires { voice < 4 }
     ensures value { (p : List (List ACell)) → IsAfter p m.now

@@ -113,6 +113,7 @@ pub(crate) fn moment_of<'a>(ex: &'a Exercise<'a>, state: &'a State, col: &'a Col
 
 /// The rules settled at once that the column breaks strictly, and what it costs of them and of such
 /// tolls. Where nothing begins, nothing is read, and what is told isn't asked.
+#[inline(always)]
 pub(crate) fn readings(sheet: &Sheet, m: &Moment<'_>, told: bool) -> (RuleSet, u64)
     requires readable { IsReadable m.now }
     requires told { IsTrue told → IsToldAt m.now }
