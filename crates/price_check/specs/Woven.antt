@@ -82,6 +82,19 @@ pub record AreOfOne (lists : List PricedList) : Type 0 where
 abbrev pub AreWebs : List PricedList → List (Option (Web Kept)) → Type 0
 AreWebs lists webs = (j : ℕ) (it : PricedList) → slice_get lists j ≡ Some it → HasWeb webs it
 
+-- numbers are those of settings in a case, over a web
+abbrev pub AreCaseNumbers : PricedSpace → Web Kept → ℕ → List (Option ℕ) → Type 0
+AreCaseNumbers priced web k numbers =
+    AreNumbersOf web (columns_in priced.space.now.exercise) (case_in priced.space.now.exercise priced.charges.now k) numbers
+
+-- they are those of each case
+pub record AreNumbersOver (priced : PricedSpace) (web : Web Kept) (numbers : List (List (Option ℕ))) : Type 0 where
+  pub short : columns_in priced.space.now.exercise ≤ 192
+  pub few : length priced.charges.now.summits.items ≤ MOST_CASES
+  pub each : length numbers ≡ length priced.charges.now.summits.items
+  pub worked : (k : ℕ) → k < length priced.charges.now.summits.items
+      → AreCaseNumbers priced web k (numbers_of numbers k)
+
 -- the numbers are those of a list's cases over its web
 pub record AreNumbersIn (webs : List (Option (Web Kept))) (it : PricedList) (numbers : List (List (Option ℕ))) : Type 0 where
   pub short : columns_in it.space.space.now.exercise ≤ 192

@@ -3,7 +3,7 @@
 ghost use Rattle.std.specs.Prelude.{◌≡◌, ◌≢◌, ◌<◌, ℕ, Some, None, Err, length, map, slice_get, IfOk, IfSome, OnOk};
 ghost use Rattle.std.specs.List.{AllByRecursion};
 ghost use Rattle.price_check.specs.Floors.{AreFor, list_of as list_of_floor};
-ghost use Rattle.price_check.specs.Woven.{AreEachNumbers, AreNumbersAt, AreNumbersIn, AreOf, AreOfOne, AreWebs, FitsFor, HasLargeWeb, HasWeb, IsWebFor, list_priced};
+ghost use Rattle.price_check.specs.Woven.{AreCaseNumbers, AreEachNumbers, AreNumbersAt, AreNumbersIn, AreNumbersOver, AreOf, AreOfOne, AreWebs, FitsFor, HasLargeWeb, HasWeb, IsWebFor, IsWebOf, list_priced};
 ghost use Rattle.price_check.specs.Woven as words;
 ghost use Rattle.price_check.specs.declared.priced_list.PricedList.{PricedList as APriced};
 ghost use Rattle.floor_tables.specs.Tables.{Task};
@@ -17,11 +17,12 @@ use open_ends::Keeps;
 use path_sums::PathSums;
 use price_lists::OwnList;
 use priced_floors::{Kept, PricedSpace};
-use priced_paths::{Web, WebFault, case_numbers, whole_web};
+use priced_paths::{Pricing, Web, WebFault, numbers_in, whole_web};
 use rayon::prelude::*;
 use species_space::SpeciesSpace;
 use std::alloc::Global;
 use std::thread::Threads;
+use tree_search::Space;
 
 /// A list with the settings of a space.
 fn priced_list<'a>(
@@ -138,8 +139,47 @@ fn web_in<'a>(webs: &'a [Option<Web<Kept>>], list: &PricedList<'_>) -> &'a Web<K
     }
 }
 
-/// The numbers of the list at a place.
-fn numbers_at(
+/// The numbers of settings in a case, over their web.
+fn numbers_of_case(
+    alloc: Global,
+    space: &PricedSpace<'_>,
+    web: &Web<Kept>,
+    case: usize,
+) -> Result<Numbers<Option<u64>>, Memory>
+    requires web { IsWebOf space.now web.now }
+    requires case { case < length space.now.charges.now.summits.items }
+    ensures { IfOk result (AreCaseNumbers space.now web.now case) }
+{
+    let height = space.space().depth();
+    numbers_in(alloc, space, web, height, case)
+}
+
+/// The numbers of each case, worked side by side.
+fn numbers_over<R: Threads + Sync>(
+    rt: &R,
+    alloc: Global,
+    space: &PricedSpace<'_>,
+    web: &Web<Kept>,
+) -> Result<Vec<Numbers<Option<u64>>>, Memory>
+    requires { IsWebOf space.now web.now }
+    ensures { IfOk result (λ numbers. AreNumbersOver space.now web.now numbers.items) }
+{
+    let numbers = (0..space.cases())
+        .into_par_iter()
+        .map(
+            |case: usize| -> Result<Numbers<Option<u64>>, Memory>
+                requires web { IsWebOf space.now web.now }
+                requires case { case < length space.now.charges.now.summits.items }
+                ensures { IfOk result (AreCaseNumbers space.entry.now web.entry.now case) }
+            { numbers_of_case(alloc, space, web, case) },
+        )
+        .collect::<Result<Vec<Numbers<Option<u64>>>, Memory>>(rt, alloc)?;
+    numbers
+}
+
+/// The numbers of the list at a place, case by case.
+fn numbers_at<R: Threads + Sync>(
+    rt: &R,
     alloc: Global,
     lists: &[PricedList<'_>],
     webs: &[Option<Web<Kept>>],
@@ -151,10 +191,11 @@ fn numbers_at(
 {
     let list = &lists[j];
     let web = web_in(webs, list);
-    case_numbers(alloc, &list.space, web)
+    numbers_over(rt, alloc, &list.space, web)
 }
 
-/// The numbers of each list, worked side by side. They don't depend on how the work is divided.
+/// The numbers of each list, the lists and the cases of each worked side by side. They don't depend
+/// on how the work is divided.
 pub fn list_numbers<R: Threads + Sync>(
     rt: &R,
     alloc: Global,
@@ -171,7 +212,7 @@ pub fn list_numbers<R: Threads + Sync>(
                 requires webs { AreWebs lists.now webs.now }
                 requires within { j < length lists.now }
                 ensures { IfOk result (AreNumbersAt lists.entry.now webs.entry.now j) }
-            { numbers_at(alloc, lists, webs, j) },
+            { numbers_at(rt, alloc, lists, webs, j) },
         )
         .collect::<Result<Vec<Vec<Numbers<Option<u64>>>>, Memory>>(rt, alloc)?;
     numbers

@@ -12,7 +12,7 @@ collect-requires-clause-ready g c κs within =
     let size = length c.args.lists.now in
     let inside = nat_range-All (λ i. i < size) 0 size (λ i low high. high) in
     rw (c.map.ensures.base, c.map.ensures.f, ends.0, ends.1)
-    (λ k d short. ((c.requires, inside k d short), λ y is. tt))
+    (λ k d short. ((c.requires, (inside k d short, record { shared = c.type_bounds.sync-R.shared })), λ y is. tt))
 
 pub returns : goal.returns
 returns g c =
@@ -24,6 +24,6 @@ returns g c =
     let chain = c.in_ok-numbers.ensures.1 in
     let numbers = chain.1 ∙ (λ i. nat_range (base i).start (base i).end) ∙ (λ i. nat_range (ends.0 i) (ends.1 i))
     ∙ ap (range_with_len 0) whole in
-    numbers_for Memory c.args.lists.now c.map.result.f.1.now c.args.webs.now c.map.result.f.2.now (λ i. (own i).1.now)
-    (λ i. (own i).2.now) chain.0 c.in_ok-numbers.ensures.0 c.in_ok-numbers.numbers numbers chain.2
+    numbers_for Memory c.args.lists.now c.map.result.f.2.now c.args.webs.now c.map.result.f.3.now (λ i. (own i).2.now)
+    (λ i. (own i).3.now) chain.0 c.in_ok-numbers.ensures.0 c.in_ok-numbers.numbers numbers chain.2
     c.in_ok-numbers.ensures.2
