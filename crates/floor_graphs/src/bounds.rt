@@ -1,19 +1,20 @@
 //! The search in depth below caps that are guessed and raised.
-ghost use Rattle.std.specs.Prelude.{◌≡◌, ◌+◌, ◌<◌, ◌≤◌, IfOk};
+ghost use Rattle.std.specs.Prelude.{◌-◌, ◌<◌, ◌≤◌, IfOk, min};
 ghost use Rattle.tree_search.specs.Answer.{IsFirstLeast, HasNoLeaf, BoundsLeaves, IsOverBudget};
 ghost use Rattle.tree_search.specs.Outcomes.{IfFound, OnNothing, IfSpent, IsSpent};
 ghost use Rattle.floor_graphs.specs.Sameness.{AgreesWithAnswers};
 
 use crate::capped::Capped;
+use crate::purse::{Purse, depth_of, front_of};
 use fux_pitch::Memory;
 use std::alloc::Global;
-use tree_search::{Outcome, Space, Spending, search_front, spend_depth};
+use tree_search::{Outcome, Space, search_front};
 
-/// How many of its budgets the rounds of a try may spend together.
+/// How many of its budgets the rounds of a try may spend together, out of a purse that has more.
 const BUDGETS: u64 = 8;
 
 /// The budget of the front that goes before the rounds.
-const FIRST_BUDGET: u32 = 1_024;
+pub const FIRST_BUDGET: u32 = 1_024;
 
 /// How many rounds there are at most.
 const ROUNDS: usize = 32;
@@ -32,40 +33,16 @@ fn more_values(round: usize) -> u64
     (2u64 << (round - SINGLE_ROUNDS)) - 1
 }
 
-/// What rounds may still spend together.
-#[derive(Drop)]
-struct Purse {
-    left: u64,
-}
-
-impl Purse {
-    /// As much of this as is there.
-    fn part(&self, most: u32) -> u32
-        ensures most { result ≤ most }
-        ensures there { result ≤ self.now.left }
-    {
-        u64::from(most).min(self.left) as u32
-    }
-
-    /// Pays for what was spent of a part: all but what is left of it.
-    fn pay(&mut self, part: u32, left: u32)
-        requires part { part ≤ self.old.left }
-        requires left { left ≤ part }
-        ensures { self.new.left + part ≡ self.old.left + left }
-    {
-        self.left = self.left - u64::from(part - left);
-    }
-}
-
 /// Searches in depth below a cap, where that finds nothing below a higher one, and so on: the bound
 /// of all leaves then lies above the cap before, and never falls. A round has the budget, or what is
-/// left in a purse of a few of them, out of which each prefix is paid that a round opens. The outcome
-/// is never `Nothing`.
+/// left in a purse, out of which each prefix is paid that a round opens. The outcome is never
+/// `Nothing`.
 fn search_rounds<S: Space>(
     alloc: Global,
     space: &S,
     bound: u64,
     budget: u32,
+    purse: &mut Purse,
 ) -> Result<Outcome, Memory>
     requires { BoundsLeaves (S.live space.now) (S.height space.now) bound }
     ensures found { IfOk result (λ outcome. IfFound outcome (IsFirstLeast (S.live space.now)
@@ -75,17 +52,12 @@ fn search_rounds<S: Space>(
     ensures bound { IfOk result (λ outcome. IfSpent outcome (BoundsLeaves (S.live space.now)
         (S.height space.now))) }
     ensures kept { IfOk result (λ outcome. IfSpent outcome (λ least. bound ≤ least)) }
+    ensures paid { purse.new.left ≤ purse.old.left }
 {
     let mut low = bound;
-    let mut purse = Purse {
-        left: BUDGETS * u64::from(budget),
-    };
     for round in 0..ROUNDS {
         let high = low.saturating_add(more_values(round));
-        let part = purse.part(budget);
-        let Spending { outcome, left } = spend_depth(alloc, &Capped { space, low, high }, part)?;
-        purse.pay(part, left);
-        match outcome {
+        match depth_of(alloc, &Capped { space, low, high }, budget, purse)? {
             Outcome::Found { path, value } => return Ok(Outcome::Found { path, value }),
             Outcome::Spent { bound: _ } => break,
             Outcome::Nothing => {}
@@ -104,14 +76,16 @@ fn search_rounds<S: Space>(
 /// which leave out what is above a cap: where the bound is the least value, a round is done with the
 /// first leaf that it meets. They look for one value after another at first, and for more and more
 /// at once later on, so that a tree without leaves doesn't take too many of them. Each may spend the
-/// whole budget, and all together may spend eight. A bound that is known of all leaves already is
-/// where the rounds begin at least.
+/// whole budget, and all together may spend eight, as long as a purse has so much, out of which the
+/// front and the rounds are paid. A bound that is known of all leaves already is where the rounds
+/// begin at least.
 /// A try may be spent where a front with that budget isn't.
 pub fn try_by_bounds<S: Space>(
     alloc: Global,
     space: &S,
     known: u64,
     budget: u32,
+    purse: &mut Purse,
 ) -> Result<Outcome, Memory>
     requires { BoundsLeaves (S.live space.now) (S.height space.now) known }
     ensures found { IfOk result (λ outcome. IfFound outcome (IsFirstLeast (S.live space.now)
@@ -122,21 +96,26 @@ pub fn try_by_bounds<S: Space>(
         (S.height space.now))) }
     ensures kept { IfOk result (λ outcome. IfSpent outcome (λ least. known ≤ least)) }
     ensures agrees { IfOk result (AgreesWithAnswers (S.live space.now) (S.height space.now)) }
+    ensures paid { purse.new.left ≤ purse.old.left - min budget FIRST_BUDGET }
 {
-    let bound = match search_front(alloc, space, budget.min(FIRST_BUDGET))? {
+    let bound = match front_of(alloc, space, budget.min(FIRST_BUDGET), purse)? {
         Outcome::Spent { bound } => bound.max(known),
         answer => return Ok(answer),
     };
-    search_rounds(alloc, space, bound, budget)
+    let mut share = purse.share(BUDGETS * u64::from(budget));
+    let outcome = search_rounds(alloc, space, bound, budget, &mut share)?;
+    purse.put_back(share);
+    Ok(outcome)
 }
 
 /// The first leaf of least value: a try, and where that comes to nothing, a front with the whole
-/// budget, which has the last word.
+/// budget, which has the last word, whatever a purse has left for tries.
 pub fn search_by_bounds<S: Space>(
     alloc: Global,
     space: &S,
     known: u64,
     budget: u32,
+    purse: &mut Purse,
 ) -> Result<Outcome, Memory>
     requires { BoundsLeaves (S.live space.now) (S.height space.now) known }
     ensures found { IfOk result (λ outcome. IfFound outcome (IsFirstLeast (S.live space.now)
@@ -151,8 +130,9 @@ pub fn search_by_bounds<S: Space>(
     ensures over { IfOk result (λ outcome. IsSpent outcome → IsOverBudget (S.live space.now)
         (S.height space.now) budget) }
     ensures agrees { IfOk result (AgreesWithAnswers (S.live space.now) (S.height space.now)) }
+    ensures paid { purse.new.left ≤ purse.old.left - min budget FIRST_BUDGET }
 {
-    let bound = match try_by_bounds(alloc, space, known, budget)? {
+    let bound = match try_by_bounds(alloc, space, known, budget, purse)? {
         Outcome::Spent { bound } => bound,
         answer => return Ok(answer),
     };

@@ -6,12 +6,14 @@ mod bounds;
 mod capped;
 mod graph;
 mod guide;
+mod purse;
 mod search;
 mod sharpened;
 
-pub use bounds::{search_by_bounds, try_by_bounds};
+pub use bounds::{FIRST_BUDGET, search_by_bounds, try_by_bounds};
 pub use capped::Capped;
 pub use graph::{Graph, least_numbers, lesser};
 pub use guide::Guide;
+pub use purse::{Purse, front_of};
 pub use search::{search_sharpened, try_sharpened};
 pub use sharpened::{Sharp, Sharpened};

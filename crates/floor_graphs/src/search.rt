@@ -1,13 +1,15 @@
 //! The search of a sharpened space, told of the space itself.
 
-ghost use Rattle.std.specs.Prelude.{◌≡◌, ◌≤◌, IfOk};
+ghost use Rattle.std.specs.Prelude.{◌-◌, ◌≤◌, IfOk, min};
 ghost use Rattle.tree_search.specs.Answer.{IsFirstLeast, HasNoLeaf, BoundsLeaves, IsOverBudget};
 ghost use Rattle.tree_search.specs.Outcomes.{IfFound, OnNothing, IfSpent, IsSpent};
 ghost use Rattle.floor_graphs.specs.Sameness.{AgreesWithAnswers};
 ghost use Rattle.floor_graphs.specs.Sharper.{sharpened};
+ghost use Rattle.floor_graphs.specs.declared.bounds.TheConstants.{FIRST_BUDGET};
 
 use crate::bounds::{search_by_bounds, try_by_bounds};
 use crate::guide::Guide;
+use crate::purse::Purse;
 use crate::sharpened::Sharpened;
 use fux_pitch::Memory;
 use std::alloc::Global;
@@ -21,6 +23,7 @@ pub fn try_sharpened<G: Guide>(
     guide: &G,
     known: u64,
     budget: u32,
+    purse: &mut Purse,
 ) -> Result<Outcome, Memory>
     requires { BoundsLeaves (G.Tree.live (G.tree guide.now)) (G.Tree.height (G.tree guide.now))
         known }
@@ -33,8 +36,9 @@ pub fn try_sharpened<G: Guide>(
     ensures kept { IfOk result (λ outcome. IfSpent outcome (λ least. known ≤ least)) }
     ensures agrees { IfOk result (AgreesWithAnswers (G.Tree.live (G.tree guide.now))
         (G.Tree.height (G.tree guide.now))) }
+    ensures paid { purse.new.left ≤ purse.old.left - min budget FIRST_BUDGET }
 {
-    try_by_bounds(alloc, &Sharpened { guide }, known, budget)
+    try_by_bounds(alloc, &Sharpened { guide }, known, budget, purse)
 }
 
 /// The first leaf of least value of the guide's space, by bounds over its sharpened floors
@@ -46,6 +50,7 @@ pub fn search_sharpened<G: Guide>(
     guide: &G,
     known: u64,
     budget: u32,
+    purse: &mut Purse,
 ) -> Result<Outcome, Memory>
     requires { BoundsLeaves (G.Tree.live (G.tree guide.now)) (G.Tree.height (G.tree guide.now))
         known }
@@ -66,6 +71,7 @@ pub fn search_sharpened<G: Guide>(
         → IsOverBudget (G.Tree.live (G.tree guide.now)) (G.Tree.height (G.tree guide.now)) budget) }
     ensures agrees { IfOk result (AgreesWithAnswers (G.Tree.live (G.tree guide.now))
         (G.Tree.height (G.tree guide.now))) }
+    ensures paid { purse.new.left ≤ purse.old.left - min budget FIRST_BUDGET }
 {
-    search_by_bounds(alloc, &Sharpened { guide }, known, budget)
+    search_by_bounds(alloc, &Sharpened { guide }, known, budget, purse)
 }

@@ -130,7 +130,7 @@ impl<'a> Guide for GuidedGrid<'a> {
 #[cfg(test)]
 mod tests {
     use super::*;
-    use floor_graphs::{search_by_bounds, search_sharpened};
+    use floor_graphs::{Purse, search_by_bounds, search_sharpened};
     use priced_paths::search_priced;
     use std::test::Fail;
     use tree_search::{Outcome, search_front};
@@ -202,7 +202,9 @@ mod tests {
                 costs: Vec::from_slice(rt.alloc(), costs)?,
             };
             let guided = GuidedGrid::new(rt.alloc(), &grid)?;
-            assert!(rt; is_wanted(&search_sharpened(rt.alloc(), &guided, 0, *budget)?, want));
+            let mut purse = Purse::of(*budget);
+            let found = search_sharpened(rt.alloc(), &guided, 0, *budget, &mut purse)?;
+            assert!(rt; is_wanted(&found, want));
         }
         Ok(())
     }
@@ -266,7 +268,9 @@ mod tests {
             let grid = Grid {
                 costs: Vec::from_slice(rt.alloc(), costs)?,
             };
-            assert!(rt; is_wanted(&search_by_bounds(rt.alloc(), &grid, 0, *budget)?, want));
+            let mut purse = Purse::of(*budget);
+            let found = search_by_bounds(rt.alloc(), &grid, 0, *budget, &mut purse)?;
+            assert!(rt; is_wanted(&found, want));
         }
         Ok(())
     }
@@ -281,13 +285,21 @@ mod tests {
             )?,
         };
         // ten rounds open the first row, and then its three nodes aren't paid for
-        let Outcome::Spent { bound } = search_by_bounds(rt.alloc(), &grid, 0, 4)? else {
+        let mut purse = Purse::of(4);
+        let first = search_by_bounds(rt.alloc(), &grid, 0, 4, &mut purse)?;
+        let Outcome::Spent { bound } = first else {
             return Err("not spent".into());
         };
+        // of nine budgets the front had one, and the rounds have had eight
+        assert!(rt; purse.left == 0);
         // rounds at 10 to 13 open the first row, and the last one leaves out what is worth 15
         let want = Want::Found(&[0, 1], 14);
         assert!(rt; bound == 10);
-        assert!(rt; is_wanted(&search_by_bounds(rt.alloc(), &grid, bound, 4)?, &want));
+        let mut purse = Purse::of(4);
+        let found = search_by_bounds(rt.alloc(), &grid, bound, 4, &mut purse)?;
+        assert!(rt; is_wanted(&found, &want));
+        // of 36 the front had 4, four rounds 3 each, and the last one two
+        assert!(rt; purse.left == 18);
         Ok(())
     }
 
@@ -346,7 +358,9 @@ mod tests {
         };
         let guided = GuidedGrid::new(rt.alloc(), &grid)?;
         let want = Want::Found(&[1, 0], 2);
-        assert!(rt; is_wanted(&search_sharpened(rt.alloc(), &guided, 0, 100)?, &want));
+        let mut purse = Purse::of(100);
+        let found = search_sharpened(rt.alloc(), &guided, 0, 100, &mut purse)?;
+        assert!(rt; is_wanted(&found, &want));
         assert!(rt; is_wanted(&search_front(rt.alloc(), &grid, 100)?, &want));
         Ok(())
     }

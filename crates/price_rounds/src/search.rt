@@ -1,8 +1,9 @@
 //! The search for the best setting of an exercise by sharper floors.
 
-ghost use Rattle.std.specs.Prelude.{◌≡◌, ◌≤◌, IfOk, IfSome, length};
+ghost use Rattle.std.specs.Prelude.{◌≡◌, ◌-◌, ◌≤◌, IfOk, IfSome, OnOk, length, min};
 ghost use Rattle.fux_grid.specs.Exercises.{IsValid, columns_in};
 ghost use Rattle.floor_graphs.specs.Sameness.{AgreesWithAnswers};
+ghost use Rattle.floor_graphs.specs.declared.bounds.TheConstants.{FIRST_BUDGET};
 ghost use Rattle.priced_floors.specs.Charges.{AreFairCharges, AreSmallCharges};
 ghost use Rattle.priced_floors.specs.declared.charges.TheConstants.{CASES, MOST_CHARGE, SCALE};
 ghost use Rattle.price_rounds.specs.Woven.{IsTry, IsWoven};
@@ -13,13 +14,14 @@ ghost use Rattle.tree_search.specs.Outcomes.{IfFound, IfSpent, IsSpent, OnNothin
 use crate::keys::summit_keys;
 use crate::rounds::Bids;
 use crate::woven::{Woven, weave, weave_first};
+use floor_graphs::{Purse, front_of};
 use fux_pitch::Memory;
 use open_ends::Keeps;
 use priced_floors::{Charges, PricedSpace, Prices};
 use priced_paths::{search_unpriced, search_web, try_web};
 use species_space::SpeciesSpace;
 use std::alloc::Global;
-use tree_search::{Outcome, search_front};
+use tree_search::Outcome;
 
 /// How many prefixes are opened at most before any price is sought: many an exercise needs no more.
 /// With each voice more webs take longer, and so there are twice as many.
@@ -47,7 +49,9 @@ const EDGES: usize = 500_000;
 const EDGES_OF_A_PREFIX: usize = 6;
 
 /// How many prefixes are opened at most of a space before any price is sought.
-fn first_part(space: &SpeciesSpace<'_>) -> u32 {
+fn first_part(space: &SpeciesSpace<'_>) -> u32
+    ensures { FIRST_OF_TWO ≤ result }
+{
     match space.exercise().voices {
         4 => FIRST_OF_FOUR,
         3 => FIRST_OF_THREE,
@@ -83,6 +87,7 @@ fn try_woven(
     prices: &[Prices],
     known: u64,
     budget: u32,
+    purse: &mut Purse,
 ) -> Result<Outcome, Memory>
     requires valid { IsValid space.now.exercise }
     requires known { BoundsLeaves (live_at space.now.exercise space.now.sheet)
@@ -100,11 +105,12 @@ fn try_woven(
     ensures kept { IfOk result (λ outcome. IfSpent outcome (λ least. known ≤ least)) }
     ensures agrees { IfOk result (AgreesWithAnswers (live_at space.now.exercise space.now.sheet)
         (columns_in space.now.exercise)) }
+    ensures paid { OnOk result (purse.new.left ≤ purse.old.left - min budget FIRST_BUDGET) }
 {
     let keys = summit_keys(alloc, space, voice)?;
     let charges = Charges::new(alloc, space.sheet(), prices, voice, &keys)?;
     let priced = PricedSpace::new(alloc, space, woven.keeps, &charges)?;
-    try_web(alloc, &priced, &woven.web, known, budget)
+    try_web(alloc, &priced, &woven.web, known, budget, purse)
 }
 
 /// The first leaf of least value, by floors over a web with these prices.
@@ -116,6 +122,7 @@ fn search_woven(
     prices: &[Prices],
     known: u64,
     budget: u32,
+    purse: &mut Purse,
 ) -> Result<Outcome, Memory>
     requires valid { IsValid space.now.exercise }
     requires known { BoundsLeaves (live_at space.now.exercise space.now.sheet)
@@ -136,11 +143,12 @@ fn search_woven(
         budget) }
     ensures agrees { IfOk result (AgreesWithAnswers (live_at space.now.exercise space.now.sheet)
         (columns_in space.now.exercise)) }
+    ensures paid { OnOk result (purse.new.left ≤ purse.old.left - min budget FIRST_BUDGET) }
 {
     let keys = summit_keys(alloc, space, voice)?;
     let charges = Charges::new(alloc, space.sheet(), prices, voice, &keys)?;
     let priced = PricedSpace::new(alloc, space, woven.keeps, &charges)?;
-    search_web(alloc, &priced, &woven.web, known, budget)
+    search_web(alloc, &priced, &woven.web, known, budget, purse)
 }
 
 /// The first leaf of least value within a part of the budget, by floors that keep least. None where
@@ -152,6 +160,7 @@ fn search_least(
     bids: &mut Bids,
     known: u64,
     budget: u32,
+    purse: &mut Purse,
 ) -> Result<Option<Outcome>, Memory>
     requires valid { IsValid space.now.exercise }
     requires known { BoundsLeaves (live_at space.now.exercise space.now.sheet)
@@ -160,7 +169,13 @@ fn search_least(
     requires small { AreSmallCharges MOST_CHARGE plain.now }
     requires scale { plain.now.scale ≡ SCALE }
     requires few { length plain.now.summits.items ≤ CASES }
-    ensures { IfOk result (λ tried. IfSome tried (IsTry space.now.exercise space.now.sheet known)) }
+    ensures tried { IfOk result
+        (λ tried. IfSome tried (IsTry space.now.exercise space.now.sheet known)) }
+    ensures paid { OnOk result (purse.new.left ≤ purse.old.left) }
+
+    // A try pays for its first front at least.
+    ensures all_paid { IfOk result (λ tried. IfSome tried (λ _. purse.new.left
+        ≤ purse.old.left - min budget FIRST_BUDGET)) }
 {
     let Some(least) = weave(alloc, space, Keeps::least(), plain, room_for(budget))? else {
         return Ok(None);
@@ -168,7 +183,16 @@ fn search_least(
     least.seek(alloc, plain, bids, budget)?;
     let prices = bids.prices(alloc)?;
     let part = budget.min(LEAST_BUDGET);
-    let outcome = try_woven(alloc, space, &least, plain.voice, &prices, known, part)?;
+    let outcome = try_woven(
+        alloc,
+        space,
+        &least,
+        plain.voice,
+        &prices,
+        known,
+        part,
+        purse,
+    )?;
     Ok(Some(outcome))
 }
 
@@ -183,6 +207,7 @@ fn search_raised(
     prices: &[Prices],
     known: u64,
     budget: u32,
+    purse: &mut Purse,
 ) -> Result<Outcome, Memory>
     requires valid { IsValid space.now.exercise }
     requires known { BoundsLeaves (live_at space.now.exercise space.now.sheet)
@@ -203,10 +228,13 @@ fn search_raised(
         budget) }
     ensures agrees { IfOk result (AgreesWithAnswers (live_at space.now.exercise space.now.sheet)
         (columns_in space.now.exercise)) }
+    ensures paid { OnOk result (purse.new.left ≤ purse.old.left - min budget FIRST_BUDGET) }
 {
     let part = budget.min(RAISED_BUDGET);
-    match try_woven(alloc, space, woven, voice, raised, known, part)? {
-        Outcome::Spent { bound } => search_woven(alloc, space, woven, voice, prices, bound, budget),
+    match try_woven(alloc, space, woven, voice, raised, known, part, purse)? {
+        Outcome::Spent { bound } => {
+            search_woven(alloc, space, woven, voice, prices, bound, budget, purse)
+        }
         outcome => Ok(outcome),
     }
 }
@@ -220,6 +248,7 @@ fn search_most(
     bids: &mut Bids,
     known: u64,
     budget: u32,
+    purse: &mut Purse,
 ) -> Result<Outcome, Memory>
     requires valid { IsValid space.now.exercise }
     requires known { BoundsLeaves (live_at space.now.exercise space.now.sheet)
@@ -243,6 +272,7 @@ fn search_most(
         budget) }
     ensures agrees { IfOk result (AgreesWithAnswers (live_at space.now.exercise space.now.sheet)
         (columns_in space.now.exercise)) }
+    ensures paid { OnOk result (purse.new.left ≤ purse.old.left) }
 {
     let most = [Keeps::all(), Keeps::runs_alone(), Keeps::turns_alone()];
     let Some(woven) = weave_first(alloc, space, &most, plain, room_for(budget))? else {
@@ -251,7 +281,16 @@ fn search_most(
     woven.seek_on(alloc, plain, bids, budget)?;
     let prices = bids.prices(alloc)?;
     let part = budget.min(MOST_BUDGET);
-    match try_woven(alloc, space, &woven, plain.voice, &prices, known, part)? {
+    match try_woven(
+        alloc,
+        space,
+        &woven,
+        plain.voice,
+        &prices,
+        known,
+        part,
+        purse,
+    )? {
         Outcome::Spent { bound } => {
             woven.raise(alloc, plain, bids, budget)?;
             let raised = bids.prices(alloc)?;
@@ -264,6 +303,7 @@ fn search_most(
                 &prices,
                 bound,
                 budget,
+                purse,
             )
         }
         outcome => Ok(outcome),
@@ -279,6 +319,7 @@ fn search_after(
     bids: &mut Bids,
     known: u64,
     budget: u32,
+    purse: &mut Purse,
 ) -> Result<Outcome, Memory>
     requires valid { IsValid space.now.exercise }
     requires known { BoundsLeaves (live_at space.now.exercise space.now.sheet)
@@ -303,9 +344,10 @@ fn search_after(
         budget) }
     ensures agrees { IfOk result (AgreesWithAnswers (live_at space.now.exercise space.now.sheet)
         (columns_in space.now.exercise)) }
+    ensures paid { OnOk result (purse.new.left ≤ purse.old.left) }
 {
     match tried {
-        Outcome::Spent { bound } => search_most(alloc, space, plain, bids, bound, budget),
+        Outcome::Spent { bound } => search_most(alloc, space, plain, bids, bound, budget, purse),
         outcome => Ok(outcome),
     }
 }
@@ -317,6 +359,7 @@ fn search_by_prices(
     space: &SpeciesSpace<'_>,
     known: u64,
     budget: u32,
+    purse: &mut Purse,
 ) -> Result<Outcome, Memory>
     requires valid { IsValid space.now.exercise }
     requires known { BoundsLeaves (live_at space.now.exercise space.now.sheet)
@@ -336,18 +379,54 @@ fn search_by_prices(
         budget) }
     ensures agrees { IfOk result (AgreesWithAnswers (live_at space.now.exercise space.now.sheet)
         (columns_in space.now.exercise)) }
+    ensures paid { OnOk result (purse.new.left ≤ purse.old.left) }
 {
     let plain = plain_charges(alloc, space)?;
     let mut bids = Bids::new(alloc, space.sheet(), &plain)?;
-    match search_least(alloc, space, &plain, &mut bids, known, budget)? {
-        Some(tried) => search_after(alloc, space, tried, &plain, &mut bids, known, budget),
+    match search_least(alloc, space, &plain, &mut bids, known, budget, purse)? {
+        Some(tried) => {
+            search_after(alloc, space, tried, &plain, &mut bids, known, budget, purse)
+        }
         None => search_unpriced(alloc, space, known, budget),
+    }
+}
+
+/// The first leaf of least value: at first by the space's own floors with a part of the budget, and
+/// then by prices. All tries are paid out of a purse. Whatever that has left, a front that comes
+/// last has the whole budget.
+fn search_in(
+    alloc: Global,
+    space: &SpeciesSpace<'_>,
+    budget: u32,
+    purse: &mut Purse,
+) -> Result<Outcome, Memory>
+    requires { IsValid space.now.exercise }
+    ensures found { IfOk result
+        (λ outcome. IfFound outcome (IsFirstLeast (live_at space.now.exercise space.now.sheet)
+        (columns_in space.now.exercise))) }
+    ensures nothing { IfOk result
+        (λ outcome. OnNothing outcome (HasNoLeaf (live_at space.now.exercise space.now.sheet)
+        (columns_in space.now.exercise))) }
+    ensures bound { IfOk result
+        (λ outcome. IfSpent outcome (BoundsLeaves (live_at space.now.exercise space.now.sheet)
+        (columns_in space.now.exercise))) }
+    ensures over { IfOk result (λ outcome. IsSpent outcome
+        → IsOverBudget (live_at space.now.exercise space.now.sheet) (columns_in space.now.exercise)
+        budget) }
+    ensures agrees { IfOk result (AgreesWithAnswers (live_at space.now.exercise space.now.sheet)
+        (columns_in space.now.exercise)) }
+    ensures paid { OnOk result (purse.new.left ≤ purse.old.left - min budget FIRST_OF_TWO) }
+{
+    match front_of(alloc, space, budget.min(first_part(space)), purse)? {
+        Outcome::Spent { bound } => search_by_prices(alloc, space, bound, budget, purse),
+        outcome => Ok(outcome),
     }
 }
 
 /// The first leaf of least value, by floors that know of gauges beforehand: of a pitch that is
 /// struck often, and of a climax that is struck again. Where the budget is enough the answer is
-/// that of any search; where it isn't, each leaf has at least the bound for a value.
+/// that of any search; where it isn't, each leaf has at least the bound for a value. All tries
+/// together open at most nine times the budget, and the front that comes last opens it once more.
 pub fn search_best(alloc: Global, space: &SpeciesSpace<'_>, budget: u32) -> Result<Outcome, Memory>
     requires { IsValid space.now.exercise }
     ensures found { IfOk result
@@ -367,8 +446,6 @@ pub fn search_best(alloc: Global, space: &SpeciesSpace<'_>, budget: u32) -> Resu
     ensures agrees { IfOk result (AgreesWithAnswers (live_at space.now.exercise space.now.sheet)
         (columns_in space.now.exercise)) }
 {
-    match search_front(alloc, space, budget.min(first_part(space)))? {
-        Outcome::Spent { bound } => search_by_prices(alloc, space, bound, budget),
-        outcome => Ok(outcome),
-    }
+    let mut purse = Purse::of(budget);
+    search_in(alloc, space, budget, &mut purse)
 }

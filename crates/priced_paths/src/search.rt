@@ -1,16 +1,17 @@
 //! The search of a tree whose steps are charged beforehand.
 
-ghost use Rattle.std.specs.Prelude.{◌≡◌, ◌≤◌, [], IfOk, IfSome, length};
+ghost use Rattle.std.specs.Prelude.{◌≡◌, ◌-◌, ◌≤◌, [], IfOk, IfSome, OnOk, length, min};
 ghost use Rattle.tree_search.specs.Answer.{IsFirstLeast, HasNoLeaf, BoundsLeaves, IsOverBudget};
 ghost use Rattle.tree_search.specs.Outcomes.{IfFound, OnNothing, IfSpent, IsSpent};
 ghost use Rattle.floor_graphs.specs.Sameness.{AgreesWithAnswers};
+ghost use Rattle.floor_graphs.specs.declared.bounds.TheConstants.{FIRST_BUDGET};
 ghost use Rattle.priced_paths.specs.Webs.{IsWeb};
 
 use crate::build::weave;
 use crate::guide::{PricedGuide, case_numbers};
 use crate::pricing::Pricing;
 use crate::web::{Web, is_web};
-use floor_graphs::{search_sharpened, try_sharpened};
+use floor_graphs::{Purse, search_sharpened, try_sharpened};
 use fux_pitch::Memory;
 use std::alloc::Global;
 use tree_search::{Outcome, Space, search_front};
@@ -67,13 +68,15 @@ pub fn web_of<P: Pricing>(
 
 /// A try for the first leaf of least value, by the floors of a pricing, by its web. It may be spent
 /// where a front with that budget isn't; then each leaf has at least the bound for a value. A bound
-/// of all leaves that is known already is kept, and the try begins there at least.
+/// of all leaves that is known already is kept, and the try begins there at least. It is paid out of
+/// a purse.
 pub fn try_web<P: Pricing>(
     alloc: Global,
     pricing: &P,
     web: &Web<P::Kept>,
     known: u64,
     budget: u32,
+    purse: &mut Purse,
 ) -> Result<Outcome, Memory>
     requires web { IsWeb (P.kept_of pricing.now []) (P.Tree.height (P.tree pricing.now))
         (P.breadth pricing.now) (P.step_at pricing.now) web.now }
@@ -88,6 +91,7 @@ pub fn try_web<P: Pricing>(
     ensures kept { IfOk result (λ outcome. IfSpent outcome (λ least. known ≤ least)) }
     ensures agrees { IfOk result (AgreesWithAnswers (P.Tree.live (P.tree pricing.now))
         (P.Tree.height (P.tree pricing.now))) }
+    ensures paid { OnOk result (purse.new.left ≤ purse.old.left - min budget FIRST_BUDGET) }
 {
     let numbers = case_numbers(alloc, pricing, web)?;
     let guide = PricedGuide {
@@ -95,19 +99,20 @@ pub fn try_web<P: Pricing>(
         web,
         numbers: &numbers,
     };
-    try_sharpened(alloc, &guide, known, budget)
+    try_sharpened(alloc, &guide, known, budget, purse)
 }
 
 /// The first leaf of least value, by the front over the floors of a pricing, by its web. Where the
 /// budget is enough the answer is that of any search of the tree; where it isn't, each leaf has at
 /// least the bound for a value. A bound of all leaves that is known already is kept, and the search
-/// begins there at least.
+/// begins there at least. What comes before its last front is paid out of a purse.
 pub fn search_web<P: Pricing>(
     alloc: Global,
     pricing: &P,
     web: &Web<P::Kept>,
     known: u64,
     budget: u32,
+    purse: &mut Purse,
 ) -> Result<Outcome, Memory>
     requires web { IsWeb (P.kept_of pricing.now []) (P.Tree.height (P.tree pricing.now))
         (P.breadth pricing.now) (P.step_at pricing.now) web.now }
@@ -124,6 +129,7 @@ pub fn search_web<P: Pricing>(
         (P.Tree.height (P.tree pricing.now)) budget) }
     ensures agrees { IfOk result (AgreesWithAnswers (P.Tree.live (P.tree pricing.now))
         (P.Tree.height (P.tree pricing.now))) }
+    ensures paid { OnOk result (purse.new.left ≤ purse.old.left - min budget FIRST_BUDGET) }
 {
     let numbers = case_numbers(alloc, pricing, web)?;
     let guide = PricedGuide {
@@ -131,7 +137,7 @@ pub fn search_web<P: Pricing>(
         web,
         numbers: &numbers,
     };
-    search_sharpened(alloc, &guide, known, budget)
+    search_sharpened(alloc, &guide, known, budget, purse)
 }
 
 /// The first leaf of least value, by the front over the floors of the pricing. Where the web of
@@ -153,7 +159,7 @@ pub fn search_priced<P: Pricing>(alloc: Global, pricing: &P, budget: u32) -> Res
         (P.Tree.height (P.tree pricing.now))) }
 {
     match web_of(alloc, pricing, usize::MAX)? {
-        Some(web) => search_web(alloc, pricing, &web, 0, budget),
+        Some(web) => search_web(alloc, pricing, &web, 0, budget, &mut Purse::of(budget)),
         None => search_unpriced(alloc, pricing.space(), 0, budget),
     }
 }

@@ -11,6 +11,7 @@ returns-in_default g c =
       kept = c.in_ok-answer.ensures.kept;
       over = λ spent. absurd (unspent spent);
       agrees = c.in_ok-answer.ensures.agrees;
+      paid = c.try_by_bounds.ensures.paid;
     }
 
 pub returns-in_default-2 : goal.returns-in_default-2
@@ -23,4 +24,5 @@ returns-in_default-2 g c =
       kept = if_unspent _ _ unspent;
       over = λ spent. absurd (unspent spent);
       agrees = agrees_from_facts _ _ _ c.in_ok-answer-2.ensures.found c.in_ok-answer-2.ensures.nothing;
+      paid = c.try_by_bounds.ensures.paid;
     }

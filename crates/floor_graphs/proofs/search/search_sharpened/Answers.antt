@@ -23,4 +23,5 @@ returns g c =
           c.search_by_bounds.ensures.over;
       agrees = on_ok₂ _ _ _ (agrees_from_sharpened _ _ _ _ grows floors) c.search_by_bounds.result
           c.search_by_bounds.ensures.found c.search_by_bounds.ensures.nothing;
+      paid = c.search_by_bounds.ensures.paid;
     }

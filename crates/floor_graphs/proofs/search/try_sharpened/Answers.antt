@@ -19,4 +19,5 @@ returns g c =
       kept = c.try_by_bounds.ensures.kept;
       agrees = on_ok₂ _ _ _ (agrees_from_sharpened _ _ _ _ grows floors) c.try_by_bounds.result
           c.try_by_bounds.ensures.found c.try_by_bounds.ensures.nothing;
+      paid = c.try_by_bounds.ensures.paid;
     }

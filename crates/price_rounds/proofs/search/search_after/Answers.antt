@@ -1,3 +1,4 @@
+use Rattle.std.proofs.Common.{arith}
 use Rattle.floor_graphs.proofs.SameAnswers.{not_spent}
 use Rattle.price_rounds.proofs.search.search_after.Goals as goal
 
@@ -11,4 +12,5 @@ returns-in_default c =
       kept = first.kept;
       over = λ spent. absurd (not_spent _ c.in_default.not-Spent spent);
       agrees = first.agrees;
+      paid = omega arith;
     }
