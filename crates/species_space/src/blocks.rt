@@ -135,6 +135,7 @@ impl<'a> MenuView<'a> {
     }
 
     /// In how many of the lowest voices two columns are known to have the same cells.
+    #[inline]
     pub fn lowest_alike(&self, j: usize, k: usize) -> usize
         ensures { AreAlike result (slice_index_or (columns_seen self.now) j [])
             (slice_index_or (columns_seen self.now) k []) }
@@ -235,6 +236,7 @@ fn block_end(k: usize, length: u16) -> usize
 }
 
 /// Whether two cells are the same.
+#[inline]
 fn same_cell(c: Cell, d: Cell) -> bool
     ensures { result ≡ same_cell c d }
 {
@@ -247,6 +249,7 @@ fn same_cell(c: Cell, d: Cell) -> bool
 }
 
 /// The cell of a voice in the column of a number.
+#[inline]
 fn cell_at(columns: &[Column], k: usize, v: usize) -> Cell
     requires { k < length columns.now }
     ensures { result ≡ cell_in (slice_index_or (items_of columns.now) k []) v }

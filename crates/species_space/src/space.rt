@@ -151,7 +151,7 @@ impl<'a> SpeciesSpace<'a> {
 
     /// The floor of a child, if it is live: then the child is written into the place that is given.
     /// What is told of the child isn't asked again.
-    #[inline]
+    #[inline(always)]
     fn child_with(&self, node: &Node, k: usize, told: bool, child: &mut Node) -> Option<u64>
         requires child { HasChild (IsNodeOf self.now.exercise self.now.sheet node.now)
             (columns_in self.now.exercise) (width_at self.now.exercise) k }
@@ -338,6 +338,7 @@ fn follows(exercise: &Exercise, told: bool, node: &Node, column: &Column) -> boo
 /// break: what is to come behind it costs `rest` at least. Late rules that are known to have no
 /// place there aren't asked, nor what is told of the child. The child is written into the place that
 /// is given.
+#[inline(always)]
 pub(crate) fn child_by(
     exercise: &Exercise,
     sheet: &Sheet,
