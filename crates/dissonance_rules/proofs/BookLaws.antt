@@ -1,5 +1,5 @@
 -- The rules and tolls of dissonance keep the laws of a crate's book.
-use Rattle.std.specs.Prelude.{◌≡◌, ℕ, ◌+◌, ◌-◌, ◌≤◌, ◌==◌, ◌&&◌, Bool, true, false, nat_le, nat_lt, List, [], if◌then◌else◌, refl}
+use Rattle.std.specs.Prelude.{◌≡◌, ℕ, ◌+◌, ◌-◌, ◌<◌, ◌≤◌, ◌==◌, ◌&&◌, Bool, true, false, nat_le, nat_lt, List, [], if◌then◌else◌, refl}
 use Rattle.std.proofs.Common.{ap, arith}
 use Rattle.std.proofs.lemmas.Bool.{cond_both}
 use Rattle.fux_grid.specs.declared.cell.Cell.{Cell}
@@ -96,6 +96,16 @@ module _ (ex : Exercise) where
       nth_within : (m : ℕ) (b : Bool) → i - m + (if b then 1 else 0) ≤ i + 1
       nth_within m true = omega arith
       nth_within m false = omega arith
+
+-- the places of S15 and S27, where there are some, go on to the newest column
+pub late_whole : (n : ℕ) (ex : Exercise) (i : ℕ) → is_told_later n ≡ true → 0 < late_count n ex i
+    → late_first n ex i + late_count n ex i ≡ i + 1
+late_whole n ex i told = rw told (at (has_places_in n ex && may_settle_in ex i))
+  where
+    at : (b : Bool) → 0 < (if b then i + 1 - (i - passing_reach ex) else 0)
+        → i - passing_reach ex + (if b then i + 1 - (i - passing_reach ex) else 0) ≡ i + 1
+    at true h = omega (arith, h)
+    at false h = absurd (omega (arith, h))
 
 late_keeps : (n : ℕ) → KeepsRuleLaws (late_row n)
 late_keeps n = record {

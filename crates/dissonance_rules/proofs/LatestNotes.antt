@@ -1,11 +1,11 @@
 -- Where a voice's latest notes start, as columns come (`starts-more`, `starts-same`); and that the
 -- newest column settles no break of S15 or S27 at another place than of a note that they tell of
 -- (`untold_unsettled`, `own_unsettled`).
-use Rattle.std.specs.Prelude.{◌≡◌, ℕ, suc, ◌+◌, ◌-◌, ◌*◌, ◌<◌, ◌≤◌, ◌==◌, Bool, true, false, not, ◌&&◌, ◌||◌, nat_lt, List, [], ◌∷◌, ◌++◌, is_some, drop, length, slice_index_or, if◌then◌else◌, refl}
+use Rattle.std.specs.Prelude.{◌≡◌, ℕ, suc, ◌+◌, ◌-◌, ◌*◌, ◌<◌, ◌≤◌, ◌==◌, Bool, true, false, not, ◌&&◌, ◌||◌, nat_lt, List, [], ◌∷◌, ◌++◌, is_some, drop, length, slice_index_or, if◌then◌else◌, refl, Option, Some, None}
 use Rattle.std.specs.Int.{from_bool}
 use Rattle.std.proofs.Common.{ap, sym, ◌∙◌, subst, inl, inr, arith}
 use Rattle.std.proofs.Math.ListN.{get_or-append}
-use Rattle.std.proofs.lemmas.Bool.{and_parts, both_ways, cases_Bool, cases_lt, eq-eqb, eqb-true, not-true, or_parts}
+use Rattle.std.proofs.lemmas.Bool.{and_parts, both_ways, cases_Bool, cases_lt, eq-eqb, eqb-true, lt-ltb, not-true, or_parts}
 use Rattle.std.proofs.lemmas.List.{drop-append-le, drop_all, drop_more, length-append, length-drop, map-append}
 use Rattle.fux_grid.specs.declared.cell.Cell.{Cell}
 use Rattle.fux_grid.specs.declared.cell.Cell.TheVariants.{Rest, Hold, Start}
@@ -21,8 +21,8 @@ use Rattle.rule_law.specs.Places.{reading_of, settled_by}
 use Rattle.rule_law.specs.Prefixes.{GoesOn}
 use Rattle.rule_law.specs.Rulebooks.{newly_breaks}
 use Rattle.rule_law.specs.Terms.{clash, starts}
-use Rattle.rule_law.specs.Ways.{on_some_way}
-use Rattle.rule_law.specs.Voices.{is_free}
+use Rattle.rule_law.specs.Ways.{holds_some_way, on_some_way}
+use Rattle.rule_law.specs.Voices.{holds_of_pair, is_free, on_pair, pair_of}
 use Rattle.dissonance_rules.proofs.ClashLaws.{onsets-append}
 use Rattle.dissonance_rules.proofs.LatePlaces.{closing, open_parts, way_of}
 use Rattle.dissonance_rules.proofs.LateReadings.{newly-told}
@@ -30,7 +30,7 @@ use Rattle.dissonance_rules.proofs.ToldPlaces.{is_there}
 use Rattle.dissonance_rules.specs.Book.{late_row}
 use Rattle.dissonance_rules.specs.Clashes.{clash_row, is_told_later, newly_passing, passing_enough, passing_rule}
 use Rattle.dissonance_rules.specs.Passing.{clashes_badly, has_notes_after, has_ornaments, is_good_in, is_open_clash, notes_needed, reaches_last_bar, starts_in_clash}
-use Rattle.dissonance_rules.specs.Starts.{AreStartsOf, IsNthStart, IsStartsOf, is_told_at, no_starts, starts_from, told_start}
+use Rattle.dissonance_rules.specs.Starts.{AreStartsOf, IsNthStart, IsStartsOf, is_told_at, next_told, no_starts, some_tell, starts_from}
 use Rattle.dissonance_rules.specs.declared.starts.LatestStarts.{LatestStarts}
 
 -- ---- notes from a column on
@@ -110,20 +110,27 @@ module _ (p : List (List Cell)) (col : List Cell) (v : ℕ) where
     nth = record { many = many; few = few }
 
   -- a cell that starts no note changes nothing
-  pub starts-same : (kept : LatestStarts) → starts (cell_in col v) ≡ false → IsStartsOf p v kept → IsStartsOf grown v kept
-  starts-same kept silent is = record {
+  pub starts-same : (species : ℕ) (kept : LatestStarts) → starts (cell_in col v) ≡ false → IsStartsOf species p v kept
+      → IsStartsOf species grown v kept
+  starts-same species kept silent is = record {
     latest = nth false silent 1 kept.latest (omega arith) is.latest;
     second = nth false silent 2 kept.second (omega arith) is.second;
-    third = nth false silent 3 kept.third (omega arith) is.third;
+    told = at (has_ornaments species) is.told;
   }
+    where
+      at : (b : Bool) → IsNthStart ((if b then 2 else 1) + 1) p v kept.told
+          → IsNthStart ((if b then 2 else 1) + 1) grown v kept.told
+      at true = nth false silent 3 kept.told (omega arith)
+      at false = nth false silent 2 kept.told (omega arith)
 
   -- a note that starts is the latest one
-  pub starts-more : (kept longer : LatestStarts) → starts (cell_in col v) ≡ true → longer.latest ≡ length p + 1
-      → longer.second ≡ kept.latest → longer.third ≡ kept.second → IsStartsOf p v kept → IsStartsOf grown v longer
-  starts-more kept longer start first second third is = record {
+  pub starts-more : (species : ℕ) (kept longer : LatestStarts) → starts (cell_in col v) ≡ true
+      → longer.latest ≡ length p + 1 → longer.second ≡ kept.latest → longer.told ≡ next_told species kept
+      → IsStartsOf species p v kept → IsStartsOf species grown v longer
+  starts-more species kept longer start first second third is = record {
     latest = subst (IsNthStart 1 grown v) (sym first) newest;
     second = subst (IsNthStart 2 grown v) (sym second) (nth true start 1 kept.latest (omega arith) is.latest);
-    third = subst (IsNthStart 3 grown v) (sym third) (nth true start 2 kept.second (omega arith) is.second);
+    told = subst (IsNthStart (notes_needed species + 1) grown v) (sym third) (at (has_ornaments species));
   }
     where
       newest : IsNthStart 1 grown v (length p + 1)
@@ -132,14 +139,9 @@ module _ (p : List (List Cell)) (col : List Cell) (v : ℕ) where
         few = λ i more. omega (arith, from-past grown v i (omega (arith, more, size)));
       }
 
--- the note that the latest one tells of: as many as are needed come after it
-told-nth : (species : ℕ) (p : List (List Cell)) (v : ℕ) (kept : LatestStarts) → IsStartsOf p v kept
-    → IsNthStart (notes_needed species + 1) p v (told_start species kept)
-told-nth species p v kept is = at (has_ornaments species)
-  where
-    at : (b : Bool) → IsNthStart ((if b then 2 else 1) + 1) p v (if b then kept.third else kept.second)
-    at true = is.third
-    at false = is.second
+      at : (b : Bool) → IsNthStart ((if b then 2 else 1) + 1) grown v (if b then kept.second else kept.latest)
+      at true = nth true start 2 kept.second (omega arith) is.second
+      at false = nth true start 1 kept.latest (omega arith) is.latest
 
 -- ---- enough notes
 
@@ -190,6 +192,32 @@ closed_parts false notes last f g h = cc
 
 -- ---- what the newest column settles
 
+neither : (there fv fw x y : Bool) → (there && (x || y)) ≡ false → (there && ((fv && x) || (fw && y))) ≡ false
+neither false fv fw x y h = refl
+neither true fv fw true y h = cc
+neither true fv fw false true h = cc
+neither true true true false false h = refl
+neither true true false false false h = refl
+neither true false true false false h = refl
+neither true false false false false h = refl
+
+-- what is so of neither voice of a set is so for no way to name them
+no_way : (ex : Exercise) (test : ℕ → Bool) (voices : ℕ) → on_pair ex (λ v w. test v || test w) voices ≡ false
+    → on_some_way ex (λ v w. test v) voices ≡ false
+no_way ex test voices = at (pair_of voices)
+  where
+    at : (o : Option (ℕ × ℕ)) → holds_of_pair ex (λ v w. test v || test w) o ≡ false
+        → holds_of_pair ex (holds_some_way ex (λ v w. test v)) o ≡ false
+    at None h = refl
+    at (Some pair) h =
+        neither (nat_lt pair.1 ex.voices) (is_free ex pair.0) (is_free ex pair.1) (test pair.0) (test pair.1) h
+
+-- of a set that the exercise has
+pub pair_holds : (ex : Exercise) (test : ℕ → ℕ → Bool) (voices v w : ℕ) → Some (v, w) ≡ pair_of voices
+    → w < ex.voices → on_pair ex test voices ≡ test v w
+pair_holds ex test voices v w e there =
+    sym (ap (holds_of_pair ex test) e) ∙ ap (λ b. b && test v w) (lt-ltb w ex.voices there)
+
 module _ (ex : Exercise) (voices : ℕ) (p : List (List Cell)) (col : List Cell) (i : ℕ) (on : GoesOn ex p (col ∷ []))
     (early : nat_lt (8 * (ex.bars - 1)) (length (p ++ col ∷ [])) ≡ false) where
   abbrev longer : List (List Cell)
@@ -202,10 +230,10 @@ module _ (ex : Exercise) (voices : ℕ) (p : List (List Cell)) (col : List Cell)
       ap (nat_lt (8 * (ex.bars - 1))) same ∙ early
 
   -- at a place before it the newest column settles nothing but a note that the latest ones tell of
-  module _ (kept : List LatestStarts) (are : AreStartsOf longer kept) (four : length kept ≡ 4) (few : ex.voices ≤ 4)
+  module _ (kept : List LatestStarts) (are : AreStartsOf ex longer kept) (four : length kept ≡ 4) (few : ex.voices ≤ 4)
       (within : i < length p) where
     abbrev Told : ℕ → Bool
-    Told v = is_told_at ex kept i v
+    Told v = is_told_at kept i v
 
     tells : (v w : ℕ) → is_free ex v ≡ true → is_open_clash ex i (slice_index_or p i []) (drop (i + 1) p) v w ≡ true
         → is_open_clash ex i (slice_index_or longer i []) (drop (i + 1) longer) v w ≡ false → Told v ≡ true
@@ -226,17 +254,17 @@ module _ (ex : Exercise) (voices : ℕ) (p : List (List Cell)) (col : List Cell)
         let start_then : starts (cell_in (slice_index_or p i []) v) ≡ true =
         ap (λ c. starts (cell_in c v)) (sym column) ∙ start in
         let small : v < 4 = omega (arith, is_there ex voices p col i on within v start_then, few) in
-        let Kept : ℕ → LatestStarts → Type 0 = λ w starts. IsStartsOf longer w starts in
+        let Kept : ℕ → LatestStarts → Type 0 = λ w starts. IsStartsOf (species_in ex w) longer w starts in
         let mine = one_of_four Kept kept v no_starts are four small in
-        let nth = told-nth (species_in ex v) longer v (slice_index_or kept v no_starts) mine in
+        let nth = mine.told in
         let above = from-start longer v i there start in
         let now = enough (species_in ex v) (onsets_from (i + 1) (line v (drop (i + 1) longer))) more in
         let before = too_few (species_in ex v) (onsets_from (i + 1) (line v (drop (i + 1) p))) fewer in
         let grown_by = from-grown p v col (i + 1) (omega (arith, within)) in
-        let place : told_start (species_in ex v) (slice_index_or kept v no_starts) ≡ i + 1 =
+        let place : (slice_index_or kept v no_starts).told ≡ i + 1 =
         exactly (notes_needed (species_in ex v)) (starts (cell_in col v)) _ _ _ _ now before grown_by above (nth.many i) (nth.few i)
         (nth.many (i + 1)) (nth.few (i + 1)) in
-        eq-eqb (told_start (species_in ex v) (slice_index_or kept v no_starts)) (i + 1) place
+        eq-eqb ((slice_index_or kept v no_starts).told) (i + 1) place
       where
         exactly : (need : ℕ) (b : Bool) (behind then_from now_from own_from : ℕ) → need ≤ now_from → then_from < need
             → now_from ≡ then_from + from_bool b → own_from ≡ now_from + 1
@@ -257,12 +285,12 @@ module _ (ex : Exercise) (voices : ℕ) (p : List (List Cell)) (col : List Cell)
             one true = omega arith
             one false = omega arith
 
-    pub untold_unsettled : on_some_way ex (λ v w. Told v) voices ≡ false → newly_passing ex voices p col i ≡ false
+    pub untold_unsettled : some_tell ex kept i voices ≡ false → newly_passing ex voices p col i ≡ false
     untold_unsettled none =
         elim (cases_Bool (newly_passing ex voices p col i)) [
           | inl e ↦
               let one = closing ex voices p col i on e within in
-              absurd (both_ways (Told one.v) (one.fails (λ v w. Told v) none) (tells one.v one.w one.free one.opens one.closed))
+              absurd (both_ways (Told one.v) (one.fails (λ v w. Told v) (no_way ex Told voices none)) (tells one.v one.w one.free one.opens one.closed))
           | inr e ↦ e
         ]
 
@@ -321,3 +349,12 @@ other_is_passing rule told other = at (rule == 15) refl
     at : (b : Bool) → (rule == 15) ≡ b → rule ≡ passing_rule
     at true e = eqb-true rule 15 e
     at false e = absurd (both_ways (is_told_later rule) (rw (e, other) refl) told)
+
+-- so before the last bar begins the newest column settles no break of S15 at its own place
+pub own_settles : (rule : ℕ) (ex : Exercise) (voices : ℕ) (p : List (List Cell)) (col : List Cell) (i : ℕ)
+    → GoesOn ex p (col ∷ []) → (len : ℕ) → len ≡ length (p ++ col ∷ []) → rule ≡ passing_rule
+    → nat_lt (8 * (ex.bars - 1)) len ≡ false → i ≡ length p → newly_breaks (late_row rule) ex voices p col i ≡ true → ⊥
+own_settles rule ex voices p col i on len count passing early own h =
+    both_ways (newly_breaks (late_row rule) ex voices p col i)
+    (ap (λ r. newly_breaks (late_row r) ex voices p col i) passing
+    ∙ own_unsettled ex voices p col i on (ap (nat_lt (8 * (ex.bars - 1))) (sym count) ∙ early) own) h

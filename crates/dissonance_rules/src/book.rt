@@ -26,15 +26,15 @@ impl RuleCrate for Dissonance {
 
     ghost book = { books.book };
 
-    ghost is_part = { λ ex p starts. AreStartsOf p starts };
+    ghost is_part = { AreStartsOf };
 
     fn start() -> [LatestStarts; 4] {
         [no_starts(), no_starts(), no_starts(), no_starts()]
     }
 
     #[inline]
-    fn note(part: &mut [LatestStarts; 4], _ex: &Exercise, i: usize, column: &[Cell]) {
-        note_starts(part, i, column);
+    fn note(part: &mut [LatestStarts; 4], ex: &Exercise, i: usize, column: &[Cell]) {
+        note_starts(part, ex, i, column);
     }
 
     #[inline(always)]

@@ -1,18 +1,19 @@
 //! How far back the newest columns tell what a note is: S15 and S27 are settled at all places
 //! before.
 
-ghost use Rattle.std.specs.Prelude.{◌≡◌, ◌<◌, ◌≤◌, ◌+◌, ◌-◌, true, length};
+ghost use Rattle.std.specs.Prelude.{◌≡◌, ◌<◌, ◌≤◌, ◌+◌, ◌-◌, ◌*◌, true, false, nat_lt, length};
 ghost use Rattle.fux_grid.specs.Columns.{Columns, cell_at};
 ghost use Rattle.fux_grid.specs.Exercises.{IsValid, columns_in};
 ghost use Rattle.rule_law.specs.Newest.{AreNewestOf};
 ghost use Rattle.rule_law.specs.RuleCrates.{SettlesNoOther};
 ghost use Rattle.rule_law.specs.Terms as terms;
 ghost use Rattle.dissonance_rules.specs.Book.{late_count, late_first, late_row};
-ghost use Rattle.dissonance_rules.specs.Clashes.{is_told_later};
+ghost use Rattle.dissonance_rules.specs.Clashes.{is_told_later, passing_rule};
 ghost use Rattle.dissonance_rules.specs.Passing as passing;
 ghost use Rattle.dissonance_rules.specs.Told.{AreAllTold, AreTold};
 
 use crate::late::passing_places;
+use crate::passing::reaches_last_bar;
 use fux_grid::{Exercise, cell_of, species_of};
 use rule_law::{LatePlaces, NewestColumns, is_free, is_quiet, starts};
 
@@ -76,9 +77,27 @@ fn all_told_until(newest: &NewestColumns, ex: &Exercise, first: usize, end: usiz
     told
 }
 
+/// 1 where the newest of so many columns may settle a break of S15 or S27 at its own place, else 0:
+/// before the last bar begins it settles none of S15 there.
+#[inline]
+fn own_places(rule: u8, ex: &Exercise, len: usize) -> usize
+    requires valid { IsValid ex.now }
+    ensures few { result ≤ 1 }
+    ensures passing { result ≡ 0 → rule ≡ passing_rule }
+    ensures early { result ≡ 0 → nat_lt (8 * (ex.now.bars - 1)) len ≡ false }
+{
+    if rule != 15 {
+        return 1;
+    }
+    if reaches_last_bar(ex, len) {
+        return 1;
+    }
+    0
+}
+
 /// Those of the places of S15 or S27 at which, as the newest columns tell, the newest one may
-/// settle a break: none where it is quiet. How far back notes tell it is looked for where there are
-/// many places.
+/// settle a break: none where it is quiet, and its own place only where it may settle it at once.
+/// How far back notes tell it is looked for where there are many places.
 #[inline(always)]
 pub(crate) fn passing_left(newest: &NewestColumns, rule: u8, ex: &Exercise) -> LatePlaces
     requires valid { IsValid ex.now }
@@ -101,12 +120,16 @@ pub(crate) fn passing_left(newest: &NewestColumns, rule: u8, ex: &Exercise) -> L
             count: 0,
         };
     }
+    let own = own_places(rule, ex, newest.len);
     if places.count < 10 {
-        return places;
+        return LatePlaces {
+            first: places.first,
+            count: places.count - 1 + own,
+        };
     }
     let first = all_told_until(newest, ex, places.first, last);
     LatePlaces {
         first,
-        count: newest.len - first,
+        count: last - first + own,
     }
 }

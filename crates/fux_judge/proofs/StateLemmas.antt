@@ -10,6 +10,6 @@ use Rattle.fux_judge.specs.States.{IsPastOf}
 
 pub parts_of : {ex : Exercise} {p : List (List Cell)} {past : Past} → IsPastOf ex p past
     → AreNotesOf (reverse p) past.parts.first
-    × (⊤ × (AreStartsOf p past.parts.second.second.first
+    × (⊤ × (AreStartsOf ex p past.parts.second.second.first
     × (IsShapesOf ex p past.parts.second.second.second.first × ⊤)))
 parts_of is = (is.melody, (tt, (is.dissonance, (is.rhythm, tt))))

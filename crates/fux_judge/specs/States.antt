@@ -15,7 +15,7 @@ use Rattle.fux_judge.specs.GaugeStates.{AreAheadOf, AreGaugesOf}
 -- start for dissonance, the shapes of the newest bar for rhythm
 pub record IsPastOf (ex : Exercise) (p : List (List Cell)) (past : Past) : Type 0 where
   pub melody : AreNotesOf (reverse p) past.parts.first
-  pub dissonance : AreStartsOf p past.parts.second.second.first
+  pub dissonance : AreStartsOf ex p past.parts.second.second.first
   pub rhythm : IsShapesOf ex p past.parts.second.second.second.first
 
 -- the state is of the prefix: it knows its length and its newest columns, and what the crates keep

@@ -30,4 +30,4 @@ returns c = λ p col are on count no.
     unsettled_unbroken ex voices p col i on early c.args.rule c.requires.told
     (untold_unsettled ex voices p col i on early c.args.voices.now are four c.requires.valid.most_voices
     (omega (arith, count, length-append p (col ∷ []), c.requires.place, c.if-place-len.false))
-    (sym c.tells_some_way.ensures ∙ no))
+    (sym c.some_tell.ensures ∙ no))

@@ -4,6 +4,7 @@ use Rattle.std.proofs.lemmas.List.{get_or_past}
 use Rattle.std.proofs.lemmas.Option.{slice_get-get_or, slice_get_within}
 use Rattle.fux_grid.specs.declared.cell.Cell.TheVariants.{Rest}
 use Rattle.fux_grid.specs.Cells.{cell_in}
+use Rattle.fux_grid.specs.Exercises.{species_in}
 use Rattle.rule_law.proofs.FourLemmas.{between_more}
 use Rattle.rule_law.specs.Terms.{starts}
 use Rattle.dissonance_rules.specs.declared.starts.LatestStarts.{LatestStarts}
@@ -23,12 +24,12 @@ loop-v-preserved c = record {
   each = λ p long are.
       let v = c.loop-v.v in
       let voices = c.loop-v.voices in
-      let Before : ℕ → LatestStarts → Type 0 = λ w kept. IsStartsOf (p ++ c.args.column.now ∷ []) w kept in
-      let From : ℕ → LatestStarts → Type 0 = λ w kept. IsStartsOf p w kept in
+      let Before : ℕ → LatestStarts → Type 0 = λ w kept. IsStartsOf (species_in c.args.ex.now w) (p ++ c.args.column.now ∷ []) w kept in
+      let From : ℕ → LatestStarts → Type 0 = λ w kept. IsStartsOf (species_in c.args.ex.now w) p w kept in
       let within : v < length voices = omega (arith, c.loop-v-test.true, c.min-v-end.ensures, c.loop-v.invariant.long) in
       let before = c.loop-v.invariant.each p long are in
       between_more Before From v voices c.note_cell.new.kept within
-      (c.note_cell.ensures p c.args.column.now v long c.cell_of.ensures
+      (c.note_cell.ensures p c.args.column.now long c.cell_of.ensures
       ((before v _ (slice_get-get_or voices v _ within)).1 (omega arith)))
       before;
 }
@@ -44,5 +45,5 @@ returns c = λ p long are v kept is.
           let silent : starts (cell_in c.args.column.now v) ≡ false = ap starts
           (get_or_past c.args.column.now v Rest
           (omega (arith, from, inside, c.loop-v.invariant.long, c.loop-v-test.false, c.min-v-end.ensures))) in
-          starts-same p c.args.column.now v kept silent (each.1 from)
+          starts-same p c.args.column.now v (species_in c.args.ex.now v) kept silent (each.1 from)
     ]

@@ -1,5 +1,5 @@
 use Rattle.std.proofs.Common.{◌≡◌, ◌≤◌, ◌+◌, ◌-◌, ◌∷◌, ◌++◌, [], true, false, ap, sym, ◌∙◌, inl, inr, arith, length, drop, take}
-use Rattle.std.proofs.lemmas.Bool.{and_parts, cases_lt}
+use Rattle.std.proofs.lemmas.Bool.{and_parts, cases_eq, cases_lt}
 use Rattle.std.proofs.lemmas.List.{get_or_push, length-append, take_at}
 use Rattle.fux_grid.specs.Exercises.{species_in}
 use Rattle.rule_law.specs.Growth.{newly}
@@ -8,8 +8,9 @@ use Rattle.rule_law.specs.Quiet.{is_quiet}
 use Rattle.dissonance_rules.specs.Book.{late_count, late_first}
 use Rattle.dissonance_rules.specs.Clashes.{clash_enough, clash_row, passing_enough}
 use Rattle.dissonance_rules.specs.Passing.{has_notes_after}
-use Rattle.dissonance_rules.proofs.BookLaws.{late_within}
+use Rattle.dissonance_rules.proofs.BookLaws.{late_whole, late_within}
 use Rattle.dissonance_rules.proofs.LatePlaces.{quiet_settles}
+use Rattle.dissonance_rules.proofs.LatestNotes.{own_settles}
 use Rattle.dissonance_rules.proofs.LateReadings.{newly-told}
 use Rattle.dissonance_rules.proofs.ToldPlaces.{told_settles}
 use Rattle.dissonance_rules.proofs.told.passing_left.Goals as goal
@@ -35,12 +36,29 @@ returns-then-is_quiet-clause-left c = λ p col newest on voices i among h.
 pub returns-then-places-lt10-clause-left : goal.returns-then-places-lt10-clause-left
 returns-then-places-lt10-clause-left c = λ p col newest on voices i among h.
     let ex = c.args.ex.now in
-    let last : c.args.newest.now.len - 1 ≡ length p = omega (arith, newest.count, length-append p (col ∷ [])) in
+    let size : c.args.newest.now.len ≡ length p + 1 = newest.count ∙ length-append p (col ∷ []) in
+    let last : c.args.newest.now.len - 1 ≡ length p = omega (arith, size) in
     let starts : c.passing_places-places.result.first ≡ late_first c.args.rule ex (length p) =
     c.passing_places-places.ensures.first c.requires.told ∙ ap (late_first c.args.rule ex) last in
     let counts : c.passing_places-places.result.count ≡ late_count c.args.rule ex (length p) = c.passing_places-places.ensures.count c.requires.told
     ∙ ap (late_count c.args.rule ex) last in
-    record { from = omega (arith, among.from, starts); to = omega (arith, among.to, starts, counts) }
+    let whole = late_whole c.args.rule ex (length p) c.requires.told (omega (arith, counts, c.if-places-eq0.false)) in
+    elim (cases_lt i (length p)) [
+      | inl before ↦ record {
+        from = omega (arith, among.from, starts);
+        to = omega (arith, before, starts, counts, whole, c.if-places-eq0.false);
+      }
+      | inr past ↦
+          let own : i ≡ length p = omega (arith, past, among.to, whole) in
+          elim (cases_eq c.own_places-own.result 0) [
+            | inl none ↦ absurd (own_settles c.args.rule ex voices p col i on c.args.newest.now.len newest.count
+                (c.own_places-own.ensures.passing none) (c.own_places-own.ensures.early none) own h)
+            | inr some ↦ record {
+              from = omega (arith, among.from, starts);
+              to = omega (arith, own, some, starts, counts, whole, c.if-places-eq0.false);
+            }
+          ]
+    ]
 
 pub returns-clause-left : goal.returns-clause-left
 returns-clause-left c = λ p col newest on voices i among h.
@@ -65,5 +83,15 @@ returns-clause-left c = λ p col newest on voices i among h.
           ap (λ s. has_notes_after (species_in ex v) i v (drop (i + 1) s)) (sym prefix)
           ∙ c.all_told_until-first.ensures.told (p ++ col ∷ []) newest v there free i (omega (arith, among.from, starts)) before)) ∙ newly_there in
           cc
-      | inr past ↦ record { from = past; to = omega (arith, reached, size, past) }
+      | inr past ↦
+          elim (cases_lt i (length p)) [
+            | inl within ↦ record { from = past; to = omega (arith, within, last, past) }
+            | inr ends ↦
+                let own : i ≡ length p = omega (arith, ends, reached) in
+                elim (cases_eq c.own_places-own.result 0) [
+                  | inl none ↦ absurd (own_settles c.args.rule ex voices p col i on c.args.newest.now.len newest.count
+                      (c.own_places-own.ensures.passing none) (c.own_places-own.ensures.early none) own h)
+                  | inr some ↦ record { from = past; to = omega (arith, own, some, last, past) }
+                ]
+          ]
     ]
