@@ -10,11 +10,12 @@ use Rattle.std.proofs.lemmas.List.{flat_map_more, get_or-map, length-map, take_m
 use Rattle.std.proofs.lemmas.List.Elements.{All-more}
 use Rattle.std.proofs.lemmas.Slice.Zip.{AllZip-long, all_zipped_more}
 use Rattle.arrayvec.specs.ArrayVec.{ArrayVec}
+use Rattle.chunk_laws.specs.Gathered.{AreGathered, items_in}
 use Rattle.chunk_laws.proofs.Chunks.{chunks_elim}
 use Rattle.fux_grid.specs.declared.cell.Cell.{Cell}
 use Rattle.fux_grid.specs.Grid.{items_of}
 use Rattle.chain_sums.specs.Chains.{AreFull, Chains, IsLeast}
-use Rattle.chain_sums.specs.Pieces.{AreEntries, AreGathered, ArePieces, IsEntry, Piece, items_in}
+use Rattle.chain_sums.specs.Pieces.{AreEntries, ArePieces, IsEntry, Piece}
 use Rattle.chain_sums.specs.Rows.{AreOneCostAbove, IsRow}
 
 zipped_append : {X Y : Type 0} (R : X → Y → Type 0) (xs zs : List X) (ys ws : List Y) → AllZip R xs ys → AllZip R zs ws
@@ -42,19 +43,6 @@ entry_more c i next columns sums k column sum within is so_far here =
     let last = subst (λ (col : ArrayVec Cell). R col sum) is here in
     subst (λ (cols : List (ArrayVec Cell)). AllZip R cols (sums ++ sum ∷ [])) (sym (take_more columns k column within))
     (all_zipped_more R (take k columns) sums (get_or columns k column) sum so_far last)
-
--- one piece more
-pub one_piece : (pieces : List Piece) (n : ℕ) (d : Piece) (more : Vec (Option ℕ) Global) (row longer : List (Option ℕ))
-    → n < length pieces → get_or pieces n d ≡ Ok more → AreGathered (take n pieces) row → longer ≡ row ++ more.items
-    → AreGathered (take (n + 1) pieces) longer
-one_piece pieces n d more row longer within here done is = record {
-  each = All-more IsOk pieces n d within done.each (rw here refl);
-  all = is
-      ∙ (ap (λ r. r ++ more.items) done.all
-      ∙ (ap (λ r. flat_map items_in (take n pieces) ++ items_in r) (sym here)
-      ∙ (flat_map_more items_in [] (take n pieces) (get_or pieces n d)
-      ∙ ap (flat_map items_in) (sym (take_more pieces n d within)))));
-}
 
 -- what a piece has, where it is there
 piece_is : (c : Chains) (i : ℕ) (next : List (Option ℕ)) (columns : List (ArrayVec Cell)) (piece : Piece) → IsOk piece

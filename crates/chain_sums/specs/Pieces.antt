@@ -1,8 +1,7 @@
 -- Rows in pieces, and what they are worked from.
-use Rattle.std.specs.Prelude.{◌≡◌, ℕ, ◌^◌, ◌<◌, List, [], length, slice_index_or, Option, Some, IfOk, Result, Ok, Err}
+use Rattle.std.specs.Prelude.{ℕ, ◌^◌, ◌<◌, List, length, slice_index_or, Option, Some, IfOk, Result}
 use Rattle.std.specs.Fork.{slice_chunk}
-use Rattle.std.specs.List.{All, AllZip, flat_map}
-use Rattle.std.specs.Result.{IsOk}
+use Rattle.std.specs.List.{AllZip}
 use Rattle.std.specs.declared.alloc.Global.{Global}
 use Rattle.std.specs.declared.vec.Vec.{Vec}
 use Rattle.arrayvec.specs.ArrayVec.{ArrayVec}
@@ -52,13 +51,3 @@ Piece = Result (Vec (Option ℕ) Global) Memory
 abbrev pub ArePieces : Chains → ℕ → List (Option ℕ) → ℕ → List (ArrayVec Cell) → List Piece → Type 0
 ArePieces c i next size columns pieces = (n : ℕ) (d : Piece) → n < length pieces
     → IfOk (slice_index_or pieces n d) (λ part. AreEntries c i next (slice_chunk columns size n) part.items)
-
--- the items of a piece
-abbrev pub items_in : Piece → List (Option ℕ)
-items_in (Ok part) = part.items
-items_in (Err fault) = []
-
--- each piece is there, and these are the items of all, in order
-pub record AreGathered (pieces : List Piece) (items : List (Option ℕ)) : Type 0 where
-  pub each : All IsOk pieces
-  pub all : items ≡ flat_map items_in pieces

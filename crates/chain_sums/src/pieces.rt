@@ -5,13 +5,14 @@ ghost use Rattle.std.specs.List.{AllZip};
 ghost use Rattle.fux_grid.specs.Grid.{items_of};
 ghost use Rattle.chain_sums.specs.Chains.{AreFull};
 ghost use Rattle.chain_sums.specs.Menus.{IsMenuOf};
-ghost use Rattle.chain_sums.specs.Pieces.{AreEntries, AreGathered, ArePieces, IsFinished, sums_in};
+ghost use Rattle.chain_sums.specs.Pieces.{AreEntries, ArePieces, IsFinished, sums_in};
 ghost use Rattle.chain_sums.specs.Rows.{AreOneCostAbove, IsRow};
 
 use crate::finished::Finished;
 use crate::gate::Gate;
 use crate::links::Links;
 use crate::menu::Menu;
+use chunk_laws::gathered;
 use fux_grid::Column;
 use fux_pitch::Memory;
 use std::alloc::Global;
@@ -87,24 +88,6 @@ fn pieces_of<R: Threads + Sync, L: Links + Sync, G: Gate>(
             (sums_in finished.entry.now) chunk.entry.now part.items) }
     { work_piece(alloc, links, gate, i, piece, start, chunk, finished) };
     Ok(thread::map_chunks(rt, alloc, columns, piece, &work)?)
-}
-
-/// The entries of all pieces, in order. Want of memory in a piece is passed on.
-fn gathered(
-    alloc: Global,
-    width: usize,
-    parts: &[Result<Vec<Option<u64>>, Memory>],
-) -> Result<Vec<Option<u64>>, Memory>
-    ensures { IfOk result (λ row. AreGathered parts.now row.items) }
-{
-    let mut row = Vec::with_capacity(alloc, width)?;
-    for part in parts {
-        match part {
-            Ok(entries) => row.extend_from_slice(entries)?,
-            Err(fault) => return Err(*fault),
-        }
-    }
-    Ok(row)
 }
 
 /// The row of place `i`, from the finished row of the next one.
