@@ -21,11 +21,11 @@ use crate::begin::{begin, room_for_lines};
 use crate::copy::head_of;
 use crate::head::head_text;
 use crate::lines::Lines;
+use crate::tails::SpaceTails;
 use crate::write::{is_within, write_parts};
 use cert_law::{Case, weights_are_small};
 use cert_text::{CertHead, CertWrite, Form};
 use claim_writer::{KeptLines, write_kept};
-use floor_tables::Tables;
 use fux_grid::{Exercise, Score};
 use fux_port::{Failed, Sink};
 use penalty_sheet::Sheet;
@@ -38,7 +38,7 @@ fn write_counted<K: Sink>(
     lines: &mut Lines,
     form: Form,
     case: &Case<'_>,
-    tables: &Tables<'_>,
+    tables: &SpaceTails<'_>,
     kept: &KeptLines,
     text: &str,
     sink: &mut K,
@@ -67,7 +67,7 @@ pub(crate) fn write_for_head<K: Sink>(
     alloc: Global,
     ex: &Exercise,
     sheet: &Sheet,
-    tables: &Tables<'_>,
+    tables: &SpaceTails<'_>,
     form: Form,
     head: &CertHead,
     sink: &mut K,
@@ -163,5 +163,8 @@ pub fn certify_form<K: Sink>(
     let Ok(head) = head_of(alloc, best) else {
         return Err(CertWrite::Memory);
     };
-    write_for_head(alloc, exercise, sheet, space.tables(), form, &head, sink)
+    let Ok(tables) = SpaceTails::new(alloc, space) else {
+        return Err(CertWrite::Memory);
+    };
+    write_for_head(alloc, exercise, sheet, &tables, form, &head, sink)
 }

@@ -10,6 +10,7 @@ mod entries;
 mod head;
 mod lines;
 mod next;
+mod tails;
 mod write;
 
 pub use certificate::certify_form;

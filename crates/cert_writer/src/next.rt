@@ -9,6 +9,7 @@ ghost use Rattle.cert_writer.specs.Writing.{IsTask, IsWriting, to_come};
 
 use crate::entries::{column_entry, stage_after, stage_from, start_entry};
 use crate::lines::{Lines, Stage};
+use crate::tails::SpaceTails;
 use arrayvec::ArrayString;
 use cert_law::{Case, PrefixKnown, TailedCase};
 use cert_text::{Claim, write_claim, write_potential};
@@ -16,7 +17,11 @@ use cert_tree::Walk;
 use floor_tables::Tables;
 
 /// The claim that comes next.
-fn next_claim(walk: &mut Walk<PrefixKnown>, case: &Case<'_>, tables: &Tables<'_>) -> Option<Claim>
+fn next_claim(
+    walk: &mut Walk<PrefixKnown>,
+    case: &Case<'_>,
+    tables: &SpaceTails<'_>,
+) -> Option<Claim>
     requires task { IsTask (matter_of case.now) tables.now }
     requires writing { IsWriting (matter_of case.now) walk.old }
     ensures writing { IsWriting (matter_of case.now) walk.new }
@@ -68,7 +73,7 @@ fn next_stated(stage: &mut Stage, case: &Case<'_>, tables: &Tables<'_>) -> Optio
 pub(crate) fn next_line(
     lines: &mut Lines,
     case: &Case<'_>,
-    tables: &Tables<'_>,
+    tables: &SpaceTails<'_>,
 ) -> Option<ArrayString<13>>
     requires task { IsTask (matter_of case.now) tables.now }
     requires lines { AreLines (matter_of case.now) lines.old }
@@ -77,7 +82,7 @@ pub(crate) fn next_line(
     ensures text { lines_left (matter_of case.now) lines.old ≡ lines_with result
         (lines_left (matter_of case.now) lines.new) }
 {
-    if let Some(line) = next_stated(&mut lines.stage, case, tables) {
+    if let Some(line) = next_stated(&mut lines.stage, case, tables.tables()) {
         return Some(line);
     }
     let claim = next_claim(&mut lines.walk, case, tables)?;
