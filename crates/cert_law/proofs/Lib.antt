@@ -10,6 +10,7 @@ pub mod Orders
 pub mod PrefixTruths
 pub mod Prefixes
 pub mod RestEntries
+pub mod SmoothLemmas
 pub mod SoonLemmas
 pub mod TailFacts
 pub mod TailLemmas

@@ -11,6 +11,7 @@ use Rattle.cert_law.specs.Bases.{Basis, HasTails}
 use Rattle.cert_law.specs.Cases.{IsCase, Matter}
 use Rattle.cert_law.specs.Certificates.{tree_of}
 use Rattle.cert_law.specs.Prefixes.{IsJudged}
+use Rattle.cert_law.specs.Smooth.{AreVoicesTold}
 use Rattle.cert_law.specs.Tails.{tail_of}
 use Rattle.cert_law.specs.Writer.{first_claim}
 use Rattle.chain_sums.specs.Sums.{column_follows}
@@ -85,6 +86,7 @@ pub record IsTailed (t : Matter) (basis : Basis) : Type 0 where
 pub record IsKnown (t : Tailed) (known : PrefixKnown) (p : List (List Cell)) : Type 0 where
   pub judged : IsJudged t.case p known.judged
   pub tail : known.tail ≡ tail_of t.case.exercise t.case.sheet t.stated p
+  pub voices : AreVoicesTold t.case.exercise known.judged.state known.voices
 
 -- what is known of each prefix of which this is known, with the column of a number more that may
 -- come next
@@ -101,3 +103,7 @@ IsStepOf t k known = IsOfStep (tree_in t) (IsKnown t) (ways_of t.case.exercise) 
 -- may come next
 abbrev pub IsBehindKnown : Tailed → PrefixKnown → ℕ → (List (List Cell) → Type 0) → Type 0
 IsBehindKnown t known k Holds = IsBehind (IsKnown t) (ways_of t.case.exercise) known k Holds
+
+-- of each prefix of which the one is known, the other is known as well
+abbrev pub KeepsKnown : Tailed → PrefixKnown → PrefixKnown → Type 0
+KeepsKnown t old new = (p : List (List Cell)) → IsKnown t old p → IsKnown t new p

@@ -7,6 +7,7 @@ pub mod Entries
 pub mod Known
 pub mod Prefixes
 pub mod Rests
+pub mod Smooth
 pub mod Soon
 pub mod Tails
 pub mod Truths

@@ -6,6 +6,7 @@ ghost use Rattle.cert_law.specs.Alone.{IsAlone};
 ghost use Rattle.cert_law.specs.Cases.{IsCase, matter_of};
 ghost use Rattle.cert_law.specs.Soon.{TellsBreak, TellsLeast, has_length as has_so_many};
 ghost use Rattle.fux_grid.specs.Exercises.{columns_in};
+ghost use Rattle.fux_judge.specs.Told.{TellsSmooth};
 
 use crate::case::Case;
 use crate::judged::Judged;
@@ -24,18 +25,21 @@ fn has_length(case: &Case<'_>, count: usize) -> bool
 }
 
 /// The least rule that is broken in a prefix with a column more, where it is soon told and that
-/// isn't as long as the head's setting. The least one that the column breaks by itself may be given.
+/// isn't as long as the head's setting. The least one that the column breaks by itself may be given,
+/// and whether it breaks none of melody.
 pub fn told_break(
     case: &Case<'_>,
     judged: &Judged,
     column: &Column,
     alone: Option<u8>,
+    smooth: Option<bool>,
 ) -> Option<u8>
     requires case { IsCase (matter_of case.now) }
     requires room { judged.now.state.newest.len < columns_in case.now.exercise.now }
     requires full { length column.now.items ≡ case.now.exercise.now.voices }
     requires alone { IsAlone case.now.exercise.now judged.now.state.newest.len column.now.items
         alone }
+    requires smooth { TellsSmooth case.now.exercise.now judged.now.state column.now.items smooth }
     ensures { IfSome result (TellsLeast (matter_of case.now) judged.now column.now.items) }
 {
     let broken = judged.broken.bits;
@@ -45,7 +49,7 @@ pub fn told_break(
     if has_length(case, judged.state.newest.len + 1) {
         return None;
     }
-    if let Some(rule) = told_rule(case.exercise, &judged.state, column, alone, None) {
+    if let Some(rule) = told_rule(case.exercise, &judged.state, column, alone, smooth) {
         return Some(rule);
     }
     None

@@ -1,16 +1,18 @@
 //! A case with tails, as a tree of claims: its prefixes are the nodes.
 
-ghost use Rattle.std.specs.Prelude.{◌≡◌, ◌↔◌, ◌<◌, ◌≤◌, ◌*◌, [], IfSome, IsTrue, None, length};
+ghost use Rattle.std.specs.Prelude.{◌≡◌, ◌↔◌, ◌<◌, ◌≤◌, ◌*◌, [], IfSome, IsTrue, None, length, slice_index_or};
 ghost use Rattle.cert_tree.specs.Walks.{IsNextOf, IsOfOpen};
 ghost use Rattle.cert_law.specs.Bases.{HasTails};
 ghost use Rattle.cert_law.specs.Cases.{IsCase, matter_of};
-ghost use Rattle.cert_law.specs.Known.{IsBehindKnown, IsKnown, IsKnownAfter, IsStepOf, own_in, tailed_of, tree_in, ways_of};
+ghost use Rattle.cert_law.specs.Known.{IsBehindKnown, IsKnown, IsKnownAfter, IsStepOf, KeepsKnown, own_in, tailed_of, tree_in, ways_of};
 ghost use Rattle.fux_grid.specs.Exercises.{columns_in};
 ghost use Rattle.fux_grid.specs.Menus.{menu_of};
+ghost use Rattle.fux_judge.specs.Told.{TellsSmooth};
 
 use crate::case::Case;
 use crate::judged::Judged;
 use crate::known::PrefixKnown;
+use crate::smooth::{VoicesTold, ask_voices};
 use crate::soon::{is_break_told, told_break};
 use crate::tails::Tails;
 use crate::truth::{first_claim, is_open, is_true};
@@ -48,6 +50,7 @@ fn first_known<T: Tails>(case: &Case<'_>, tails: &T) -> PrefixKnown
         judged,
         tail,
         number: 0,
+        voices: VoicesTold::none(),
     }
 }
 
@@ -71,6 +74,7 @@ fn known_after<T: Tails>(
         judged: known.judged.after(case, tails.column(i, number)),
         tail: tails.behind(i, number),
         number,
+        voices: VoicesTold::none(),
     }
 }
 
@@ -191,18 +195,23 @@ fn tell_whole<T: Tails>(
 }
 
 /// The first claim that is true of an open prefix with the column of a number more. Where it is of
-/// a rule that is soon told, no more is judged.
+/// a rule that is soon told, no more is judged. It may be given whether the column breaks no rule of
+/// melody.
 fn tell_with<T: Tails>(
     case: &Case<'_>,
     tails: &T,
     known: &PrefixKnown,
     number: usize,
+    smooth: Option<bool>,
     found: &mut Option<PrefixKnown>,
 ) -> Claim
     requires case { IsCase (matter_of case.now) }
     requires tails { HasTails (matter_of case.now) (T.basis tails.now) }
     requires step { IsStepOf (tailed_of (matter_of case.now) (T.basis tails.now)) number known.now }
     requires none { found.old ≡ None }
+    requires smooth { TellsSmooth case.now.exercise.now known.now.judged.state
+        (slice_index_or (menu_of (T.basis tails.now).exercise known.now.judged.state.newest.len) number [])
+        smooth }
     ensures own { IsBehindKnown (tailed_of (matter_of case.now) (T.basis tails.now)) known.now number
         (λ q. result ≡ own_in (tailed_of (matter_of case.now) (T.basis tails.now)) q) }
     ensures found { IfSome found.new (λ next.
@@ -212,10 +221,41 @@ fn tell_with<T: Tails>(
     let i = known.judged.state.newest.len;
     let column = tails.column(i, number);
     let alone = tails.alone(i, number);
-    if let Some(rule) = told_break(case, &known.judged, column, alone) {
+    if let Some(rule) = told_break(case, &known.judged, column, alone, smooth) {
         return Claim::Broken(rule);
     }
     tell_whole(case, tails, known, number, found)
+}
+
+/// As `tell_with`. Of each voice it is asked once whether it breaks no rule of melody, as long as its
+/// cell stays.
+fn tell_on<T: Tails>(
+    case: &Case<'_>,
+    tails: &T,
+    known: &mut PrefixKnown,
+    number: usize,
+    found: &mut Option<PrefixKnown>,
+) -> Claim
+    requires case { IsCase (matter_of case.now) }
+    requires tails { HasTails (matter_of case.now) (T.basis tails.now) }
+    requires step { IsStepOf (tailed_of (matter_of case.now) (T.basis tails.now)) number known.old }
+    requires none { found.old ≡ None }
+    ensures own { IsBehindKnown (tailed_of (matter_of case.now) (T.basis tails.now)) known.old number
+        (λ q. result ≡ own_in (tailed_of (matter_of case.now) (T.basis tails.now)) q) }
+    ensures found { IfSome found.new (λ next.
+        IsBehindKnown (tailed_of (matter_of case.now) (T.basis tails.now)) known.old number
+        (IsKnown (tailed_of (matter_of case.now) (T.basis tails.now)) next)) }
+    ensures kept { KeepsKnown (tailed_of (matter_of case.now) (T.basis tails.now)) known.old
+        known.new }
+{
+    let column = tails.column(known.judged.state.newest.len, number);
+    let smooth = ask_voices(
+        case.exercise,
+        &known.judged.state,
+        column,
+        &mut known.voices,
+    );
+    tell_with(case, tails, known, number, Some(smooth), found)
 }
 
 impl<'a, T: Tails> TailedCase<'a, T> {
@@ -307,15 +347,15 @@ impl<'a, T: Tails> ClaimTree for TailedCase<'a, T> {
     }
 
     fn own_claim_behind(&self, known: &PrefixKnown, number: usize) -> Claim {
-        tell_with(&self.case, self.tails, known, number, &mut None)
+        tell_with(&self.case, self.tails, known, number, None, &mut None)
     }
 
     fn tell_behind(
         &self,
-        known: &PrefixKnown,
+        known: &mut PrefixKnown,
         number: usize,
         found: &mut Option<PrefixKnown>,
     ) -> Claim {
-        tell_with(&self.case, self.tails, known, number, found)
+        tell_on(&self.case, self.tails, known, number, found)
     }
 }

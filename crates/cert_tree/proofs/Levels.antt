@@ -1,10 +1,10 @@
 -- Levels: what is owed where one is added (`owed-entered`), and what one is that was taken away
 -- (`level_parts`).
-use Rattle.std.specs.Prelude.{◌≡◌, ℕ, ◌+◌, ◌<◌, Bool, List, [], ◌∷◌, ◌++◌, length, reverse, slice_index_or, slice_set, refl, if◌then◌else◌}
+use Rattle.std.specs.Prelude.{◌≡◌, ℕ, ◌+◌, ◌-◌, ◌<◌, Bool, List, [], ◌∷◌, ◌++◌, Option, length, reverse, slice_index_or, slice_set, refl, if◌then◌else◌}
 use Rattle.std.proofs.Common.{arith, ap, sym, ◌∙◌, subst}
-use Rattle.std.proofs.lemmas.List.{length-reverse, reverse-append}
+use Rattle.std.proofs.lemmas.List.{length-append, length-reverse, reverse-append}
 use Rattle.cert_tree.specs.Trees.{Tree, owed_by}
-use Rattle.cert_tree.specs.Walks.{AreLevels, AreWays, IsFirstFrom, IsLevel, IsOpen, Ways, node_at, owed_later}
+use Rattle.cert_tree.specs.Walks.{AreLevels, AreWays, IsFirstFrom, IsLevel, IsOpen, Ways, node_at, owed_at, owed_later, steps_of}
 use Rattle.cert_tree.specs.declared.walk.Level.{Level}
 
 -- as many steps lead to the node as there are levels
@@ -55,6 +55,34 @@ pub owed-taken : {X C : Type 0} (tree : Tree X C) (root : X) (ways : Ways X) →
 owed-taken tree root ways are p claim b e =
     ap (λ ps. if b then ps else []) (are.all p) ∙ ap (λ t. if t then tree.longer p else []) e
 
+-- ---- levels with the same steps
+
+-- what levels lead to, and what is owed behind that, depends on the numbers of their steps alone
+pub same_steps : {X K : Type 0} (ways : Ways X) (new old : List (Level K)) → steps_of new ≡ steps_of old
+    → (node_at ways new ≡ node_at ways old) × (owed_later ways new ≡ owed_later ways old)
+same_steps ways [] [] e = (refl, refl)
+same_steps ways [] (m ∷ older) e = cc
+same_steps ways (l ∷ older) [] e = cc
+same_steps ways (l ∷ ls) (m ∷ ms) e =
+    let both : l.number ∷ steps_of ls ≡ m.number ∷ steps_of ms = e in
+    let n : l.number ≡ m.number = cc in
+    let older : steps_of ls ≡ steps_of ms = cc in
+    let behind = same_steps ways ls ms older in (
+      ap (λ k. ways.child (node_at ways ls) k) n ∙ ap (λ p. ways.child p m.number) behind.0,
+      ap (λ k. ways.longer_from (node_at ways ls) (k + 1) ++ owed_later ways ls) n
+          ∙ ap (λ p. ways.longer_from p (m.number + 1) ++ owed_later ways ls) behind.0
+          ∙ ap (λ ps. ways.longer_from (node_at ways ms) (m.number + 1) ++ ps) behind.1,
+    )
+
+pub same_owed : {X K : Type 0} (ways : Ways X) (new old : List (Level K)) (root before : Option K)
+    → steps_of new ≡ steps_of old → root ≡ before → owed_at ways new root ≡ owed_at ways old before
+same_owed ways [] [] root before e same = ap (λ r. owed_at ways [] r) same
+same_owed ways [] (m ∷ ms) root before e same = cc
+same_owed ways (l ∷ ls) [] root before e same = cc
+same_owed ways (l ∷ ls) (m ∷ ms) root before e same =
+    let are = same_steps ways (l ∷ ls) (m ∷ ms) e in
+    ap (λ p. p ∷ owed_later ways (l ∷ ls)) are.0 ∙ ap (λ ps. node_at ways (m ∷ ms) ∷ ps) are.1
+
 -- ---- the newest level with another number
 
 set_last : {A : Type 0} (xs : List A) (x y : A) → slice_set (xs ++ x ∷ []) (length xs) y ≡ xs ++ y ∷ []
@@ -76,3 +104,45 @@ renumbered items older level it top number e at read =
     ∙ ap (λ k. slice_set (older ++ level ∷ []) k (record { parent = it.parent; number = number })) at
     ∙ set_last older level (record { parent = it.parent; number = number })
     ∙ ap (λ l. older ++ record { parent = l.parent; number = number } ∷ []) same
+
+-- ---- the newest level with more that is known
+
+split_last : {A : Type 0} (x : A) (xs : List A)
+    → (older : List A) × (last : A) × (x ∷ xs ≡ older ++ last ∷ [])
+split_last x [] = ([], x, refl)
+split_last x (y ∷ ys) = let parts = split_last y ys in (x ∷ parts.0, parts.1, ap (λ l. x ∷ l) parts.2)
+
+pub noted : {X C K : Type 0} (tree : Tree X C) (IsOf : K → X → Type 0) (ways : Ways X) (items : List (Level K))
+    (it : Level K) (known : K) (top : ℕ) → 0 < length items → top ≡ length items - 1
+    → it ≡ slice_index_or items top it → ((p : X) → IsOf it.parent p → IsOf known p)
+    → AreLevels tree IsOf ways (reverse items)
+    → AreLevels tree IsOf ways (reverse (slice_set items top (record { parent = known; number = it.number })))
+    × (steps_of (reverse (slice_set items top (record { parent = known; number = it.number }))) ≡ steps_of (reverse items))
+noted tree IsOf ways [] it known top some at read kept are = absurd (omega (arith, some))
+noted {X} {C} {K} tree IsOf ways (x ∷ xs) it known top some at read kept are =
+    let parts = split_last x xs in
+    let older : List (Level K) = parts.0 in
+    let last : Level K = parts.1 in
+    let level : Level K = record { parent = known; number = it.number } in
+    let here : top ≡ length older = omega (arith, at, ap length parts.2, length-append older (last ∷ [])) in
+    let same : it ≡ last = read ∙ ap (λ l. slice_index_or l top it) parts.2
+    ∙ ap (λ k. slice_index_or (older ++ last ∷ []) k it) here ∙ last_read older last it in
+    let set : slice_set (x ∷ xs) top level ≡ older ++ level ∷ [] = ap (λ l. slice_set l top level) parts.2
+    ∙ ap (λ k. slice_set (older ++ last ∷ []) k level) here ∙ set_last older last level in
+    let new : reverse (slice_set (x ∷ xs) top level) ≡ level ∷ reverse older = reverse-level older (slice_set (x ∷ xs) top level) level set in
+    let old : reverse (x ∷ xs) ≡ last ∷ reverse older = reverse-level older (x ∷ xs) last parts.2 in
+    let p : X = node_at ways (reverse older) in
+    let levels = level_parts tree IsOf ways (x ∷ xs) older last parts.2 are in
+    let first : IsLevel tree IsOf ways p level = record {
+      is_open = record {
+        is_of = kept p (subst (λ (l : Level K). IsOf l.parent p) (sym same) levels.0.is_open.is_of);
+        claim = levels.0.is_open.claim;
+        says = levels.0.is_open.says;
+        holds = levels.0.is_open.holds;
+      };
+      within = subst (λ (l : Level K). l.number < 8192) (sym same) levels.0.within;
+      step = ap (λ (l : Level K). ways.is_step p l.number) same ∙ levels.0.step;
+    } in (
+      subst (λ ls. AreLevels tree IsOf ways ls) (sym new) (first, levels.1),
+      ap steps_of new ∙ ap (λ (l : Level K). l.number ∷ steps_of (reverse older)) same ∙ sym (ap steps_of old),
+    )

@@ -1,6 +1,6 @@
 -- Where a judge of claims stands: the open nodes that begin the one owed next, as what is known of
 -- each and the number of the step by which it goes on.
-use Rattle.std.specs.Prelude.{◌≡◌, ℕ, ◌+◌, ◌<◌, Bool, true, List, [], ◌∷◌, ◌++◌, Option, Some, None, IfSome, reverse, vec_capacity, ⊤, if◌then◌else◌}
+use Rattle.std.specs.Prelude.{◌≡◌, ℕ, ◌+◌, ◌<◌, Bool, true, List, [], ◌∷◌, ◌++◌, Option, Some, None, IfSome, map, reverse, vec_capacity, ⊤, if◌then◌else◌}
 use Rattle.std.specs.List.{AllByRecursion}
 use Rattle.cert_tree.specs.Trees.{Tree}
 use Rattle.cert_tree.specs.declared.walk.Level.{Level}
@@ -77,6 +77,10 @@ IsNextOf IsOf ways known from found = (p : _) → IsOf known p → IsNextFrom wa
 abbrev pub node_at : {X K : Type 0} → Ways X → List (Level K) → X
 node_at ways [] = ways.root
 node_at ways (level ∷ older) = ways.child (node_at ways older) level.number
+
+-- the numbers of their steps
+abbrev pub steps_of : {K : Type 0} → List (Level K) → List ℕ
+steps_of levels = map (λ level. level.number) levels
 
 -- what is owed behind that node and all that it begins
 abbrev pub owed_later : {X K : Type 0} → Ways X → List (Level K) → List X

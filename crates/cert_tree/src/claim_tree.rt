@@ -116,19 +116,21 @@ pub trait ClaimTree {
         self.own_claim(&next)
     }
 
-    /// As `own_claim_behind`. What is known of that node is kept, where it is found on the way.
+    /// As `own_claim_behind`. What is known of that node is kept, where it is found on the way. More
+    /// may be known of the open node then.
     fn tell_behind(
         &self,
-        known: &Self::Known,
+        known: &mut Self::Known,
         number: usize,
         found: &mut Option<Self::Known>,
     ) -> Self::Claim
-        requires step { IsOfStep (tree self.now) (is_of self.now) (ways self.now) number known.now }
+        requires step { IsOfStep (tree self.now) (is_of self.now) (ways self.now) number known.old }
         requires none { found.old ≡ None }
-        ensures own { IsBehind (is_of self.now) (ways self.now) known.now number (λ p. result
+        ensures own { IsBehind (is_of self.now) (ways self.now) known.old number (λ p. result
             ≡ own self.now p) }
         ensures found { IfSome found.new (λ next. IsBehind (is_of self.now) (ways self.now)
-            known.now number (is_of self.now next)) }
+            known.old number (is_of self.now next)) }
+        ensures kept { (p : Node) → is_of self.now known.old p → is_of self.now known.new p }
     {
         let _ = found;
         self.own_claim_behind(known, number)

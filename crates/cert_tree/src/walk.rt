@@ -1,9 +1,9 @@
 //! Where a judge of claims stands among the nodes that are owed.
 
-ghost use Rattle.std.specs.Prelude.{◌≡◌, ◌≤◌, ◌↔◌, ◌<◌, ◌++◌, ◌∷◌, [], List, None, IfSome, IsTrue, length, vec_capacity};
+ghost use Rattle.std.specs.Prelude.{◌≡◌, ◌≤◌, ◌↔◌, ◌<◌, ◌++◌, ◌∷◌, [], List, None, IfSome, IsTrue, length, reverse, vec_capacity};
 ghost use Rattle.std.specs.Bool.{OnFalse, OnTrue};
 ghost use Rattle.cert_tree.specs.declared.walk.Level.{Level as ALevel};
-ghost use Rattle.cert_tree.specs.Walks.{AreLevels, CanGoOn, IsFound, IsOpen, IsWalk, OwesNext, levels_of, node_at, owed_after, owed_by_walk, owed_from, owed_later};
+ghost use Rattle.cert_tree.specs.Walks.{AreLevels, CanGoOn, IsFound, IsOpen, IsWalk, OwesNext, levels_of, node_at, owed_after, owed_by_walk, owed_from, owed_later, steps_of};
 
 use crate::claim_tree::ClaimTree;
 
@@ -128,31 +128,55 @@ pub(crate) fn is_next_true<T: ClaimTree>(
     Some(it.judge_behind(&level.parent, level.number, claim, found))
 }
 
+/// The claim that is written of the node to which the newest of the levels leads. What is known of
+/// it is kept, where it is found on the way.
+fn tell_newest<T: ClaimTree>(
+    it: &T,
+    levels: &mut Vec<Level<T::Known>>,
+    found: &mut Option<T::Known>,
+) -> T::Claim
+    requires some { 0 < length levels.old.items }
+    requires levels { AreLevels (T.tree it.now) (T.is_of it.now) (T.ways it.now)
+        (reverse levels.old.items) }
+    requires none { found.old ≡ None }
+    ensures own { result ≡ T.own it.now (node_at (T.ways it.now) (reverse levels.old.items)) }
+    ensures found { IsFound (T.is_of it.now) (node_at (T.ways it.now) (reverse levels.old.items))
+        found.new }
+    ensures levels { AreLevels (T.tree it.now) (T.is_of it.now) (T.ways it.now)
+        (reverse levels.new.items) }
+    ensures steps { steps_of (reverse levels.new.items) ≡ steps_of (reverse levels.old.items) }
+    ensures room { vec_capacity levels.new ≡ vec_capacity levels.old }
+{
+    let top = levels.len() - 1;
+    let level = &mut levels[top];
+    it.tell_behind(&mut level.parent, level.number, found)
+}
+
 /// The claim that is written of the node that is owed next, where there is one. What is known of it
 /// is kept, where it is found on the way.
 pub(crate) fn own_next<T: ClaimTree>(
     it: &T,
-    walk: &Walk<T::Known>,
+    walk: &mut Walk<T::Known>,
     found: &mut Option<T::Known>,
 ) -> Option<T::Claim>
-    requires walk { IsWalk (T.tree it.now) (T.is_of it.now) (T.ways it.now) walk.now }
+    requires walk { IsWalk (T.tree it.now) (T.is_of it.now) (T.ways it.now) walk.old }
     requires none { found.old ≡ None }
     ensures own { IfSome result (λ claim. claim
-        ≡ T.own it.now (node_at (T.ways it.now) (levels_of walk.now))) }
-    ensures found { IsFound (T.is_of it.now) (node_at (T.ways it.now) (levels_of walk.now))
+        ≡ T.own it.now (node_at (T.ways it.now) (levels_of walk.new))) }
+    ensures found { IsFound (T.is_of it.now) (node_at (T.ways it.now) (levels_of walk.new))
         found.new }
-    ensures owes { IfSome result (λ _. OwesNext (T.ways it.now) walk.now) }
-    ensures none { result ≡ None → owed_by_walk (T.ways it.now) walk.now ≡ [] }
+    ensures owes { IfSome result (λ _. OwesNext (T.ways it.now) walk.new) }
+    ensures none { result ≡ None → owed_by_walk (T.ways it.now) walk.new ≡ [] }
+    ensures walk { IsWalk (T.tree it.now) (T.is_of it.now) (T.ways it.now) walk.new }
+    ensures owed { owed_by_walk (T.ways it.now) walk.new ≡ owed_by_walk (T.ways it.now) walk.old }
 {
-    let count = walk.levels.len();
-    if count == 0 {
+    if walk.levels.len() == 0 {
         return match &walk.root {
             Some(known) => Some(it.own_claim(known)),
             None => None,
         };
     }
-    let level = &walk.levels[count - 1];
-    Some(it.tell_behind(&level.parent, level.number, found))
+    Some(tell_newest(it, &mut walk.levels, found))
 }
 
 /// Whether some node is owed.

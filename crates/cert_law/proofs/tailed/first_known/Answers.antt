@@ -9,4 +9,5 @@ returns g c =
     record {
       judged = c.start-judged.ensures t refl refl;
       tail = tail_moved t (g.T.Tails.basis c.args.tails.now) [] c.start-tail.result c.requires.tails c.start-tail.ensures;
+      voices = c.none.ensures t.exercise c.start-judged.result.state;
     }

@@ -43,4 +43,5 @@ returns g c = λ p is on.
       tail =
           tail_moved t basis (p ++ column_after t.exercise p k ∷ []) c.behind.result c.requires.tails
           (c.behind.ensures p (sym n) ∙ ap (λ d. tail_by basis (p ++ d ∷ [])) number);
+      voices = c.none.ensures t.exercise c.after.result.state;
     }

@@ -11,10 +11,10 @@ returns-clause-told g c =
     let it = c.args.it.now in
     let tree = g.T.ClaimTree in
     let ways = tree.ways it in
-    let levels = reverse c.args.walk.now.levels.items in
+    let levels = reverse c.own_next.new.walk.levels.items in
     let p = node_at ways levels in
     let told = subst (λ ps. AllByRecursion (λ q. AreTrueFrom (tree.tree it) (tree.own it) (steps_left ways q) q) ps)
-    c.in_ok-claim.ensures.owes c.requires.told in
+    (sym c.in_ok-claim.ensures.owed ∙ c.in_ok-claim.ensures.owes) c.requires.told in
     subst (λ ps. AllByRecursion (λ q. AreTrueFrom (tree.tree it) (tree.own it) (steps_left ways q) q) ps)
     (sym c.go_on.ensures.owed)
     (told_step (tree.tree it) (tree.own it) (tree.root it) ways (g.met.T.ClaimTree.are_ways it) p
@@ -26,11 +26,12 @@ returns-clause-claims g c =
     let it = c.args.it.now in
     let tree = g.T.ClaimTree in
     let ways = tree.ways it in
-    let levels = reverse c.args.walk.now.levels.items in
+    let levels = reverse c.own_next.new.walk.levels.items in
     let p = node_at ways levels in
+    let owes = sym c.in_ok-claim.ensures.owed ∙ c.in_ok-claim.ensures.owes in
     let told = subst (λ ps. AllByRecursion (λ q. AreTrueFrom (tree.tree it) (tree.own it) (steps_left ways q) q) ps)
-    c.in_ok-claim.ensures.owes c.requires.told in
-    ap (flat_map (claims_at (tree.tree it) (tree.own it) ways)) c.in_ok-claim.ensures.owes
+    owes c.requires.told in
+    ap (flat_map (claims_at (tree.tree it) (tree.own it) ways)) owes
     ∙ claims_step (tree.tree it) (tree.own it) (tree.root it) ways (g.met.T.ClaimTree.are_ways it) p
     c.in_ok-claim.claim c.is_open.result (owed_later ways levels) c.in_ok-claim.ensures.own
     c.is_open.ensures told.0
