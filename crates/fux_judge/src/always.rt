@@ -94,7 +94,8 @@ fn breaks_one(rules: &[u8], ex: &Exercise, i: usize, now: &[Cell]) -> bool
 
 /// Whether column `i` settles a strict break after every prefix, by what it sounds: two voices
 /// clash, cross or meet, or the ending doesn't fit. Where it answers no, the column breaks none of
-/// these rules strictly, whatever stands before it; it may be dead all the same. It takes no memory.
+/// these rules strictly, whatever stands before it; it may be dead all the same. It takes no
+/// memory.
 pub fn is_always_dead(ex: &Exercise, i: usize, col: &Column) -> bool
     requires valid { IsValid ex.now }
     requires place { i < columns_in ex.now }

@@ -75,8 +75,8 @@ fn left_of_told(m: &Moment<'_>) -> &'static [u8]
     all_at_once()
 }
 
-/// The rules that are left to read by what tests tell. A column mostly passes them, and then few are
-/// left, or none.
+/// The rules that are left to read by what tests tell. A column mostly passes them, and then few
+/// are left, or none.
 fn left_by_tests(m: &Moment<'_>) -> &'static [u8]
     requires { IsReadable m.now }
     ensures numbers { IsTrue (list_all (λ rule. nat_lt rule 32 && not (is_late rule)) result.now) }

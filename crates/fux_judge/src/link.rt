@@ -144,8 +144,8 @@ fn decided_alone() -> &'static [u8]
     &ALONE_RULES
 }
 
-/// The least of the rules S10, S11, S13 and S14 that a column of place `i` breaks strictly, whatever
-/// stands before it.
+/// The least of the rules S10, S11, S13 and S14 that a column of place `i` breaks strictly,
+/// whatever stands before it.
 pub fn alone_rule<'a>(ex: &'a Exercise<'a>, i: usize, col: &'a Column) -> Option<u8>
     requires valid { IsValid ex.now }
     requires place { i < columns_in ex.now }

@@ -228,14 +228,15 @@ fn costs_too_much(limit: Option<u64>, least: u64, sheet: &Sheet, m: &Moment<'_>)
     }
 }
 
-/// How many voices, counted from the lowest, prune a column by their cells alone: then every column
-/// with the same cells in these voices settles a strict break, or costs the limit or more. None
-/// where no such reason was found; there may be one all the same: what a column sounds isn't asked
-/// again, since `is_always_dead` tells of it. So many of the lowest voices as have been tried are
-/// only asked what they cost: whoever has asked them of an earlier column with the same cells
-/// spares the question. Whatever the number is, what is told of a column that is pruned holds; and
-/// where nothing is relaxed and the tried voices keep the rules of melody, and S16 and S17 with lower
-/// ones, so do those below the last one that prunes, and all where none does. It takes no memory.
+/// How many voices, counted from the lowest, prune a column by their cells alone: then every
+/// column with the same cells in these voices settles a strict break, or costs the limit or more.
+/// None where no such reason was found; there may be one all the same: what a column sounds isn't
+/// asked again, since `is_always_dead` tells of it. So many of the lowest voices as have been
+/// tried are only asked what they cost: whoever has asked them of an earlier column with the same
+/// cells spares the question. Whatever the number is, what is told of a column that is pruned
+/// holds; and where nothing is relaxed and the tried voices keep the rules of melody, and S16 and
+/// S17 with lower ones, so do those below the last one that prunes, and all where none does. It
+/// takes no memory.
 #[inline(always)]
 pub fn pruned_within(
     ex: &Exercise,

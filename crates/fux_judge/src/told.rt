@@ -148,8 +148,8 @@ fn first_told(m: &Moment<'_>, alone: Option<u8>, smooth: Option<bool>) -> Option
 
 /// The least rule of which a column settles a strict break, where it is one of the first and soon
 /// told: most columns that break a rule break one of these. None where it isn't told. It is told
-/// sooner where the least rule is given that the column breaks by itself, and whether it breaks none
-/// of melody.
+/// sooner where the least rule is given that the column breaks by itself, and whether it breaks
+/// none of melody.
 pub fn told_rule(
     ex: &Exercise,
     state: &State,

@@ -42,8 +42,8 @@ ComesBefore ex node before = (p : Columns) → IsStateOf ex p node.state → bef
 abbrev pub FollowsBehind : Exercise → Node → List Cell → Type 0
 FollowsBehind ex node col = (p : Columns) → IsStateOf ex p node.state → ColumnFollows (newest_column (reverse p)) col
 
--- what is told of a column behind a node: it follows the last one of the prefix, is sound, and where
--- nothing is relaxed it keeps the rules of melody, S16 and S17
+-- what is told of a column behind a node: it follows the last one of the prefix, is sound, and
+-- where nothing is relaxed it keeps the rules of melody, S16 and S17
 pub record IsToldBehind (ex : Exercise) (node : Node) (col : List Cell) : Type 0 where
   pub kept : IsToldColumn ex node.state col
   pub follows : FollowsBehind ex node col
