@@ -10,6 +10,7 @@ What is asked:
 - a word in backticks that looks like a name of the code, or like a file, stands there (not in
   CHANGES.md, which tells of names that are gone);
 - a link within the repository leads to a file, and one to a heading to a heading;
+- no heading stands twice in a page;
 - outside of tables and of quoted text, each line has one sentence;
 - docs/adding-a-rule.md lists exactly the files under crates/ that match the regular expression
   of its line `<!-- files: .. -->`;
@@ -183,6 +184,14 @@ def anchors(name):
     return bare
 
 
+def headings_twice(name):
+    """The headings that a page has more than once."""
+    text = re.sub(r"```.*?```", "", text_of(name), flags=re.S)
+    found = re.findall(r"^#+ .*$", text, re.M)
+    twice = sorted({it for it in found if found.count(it) > 1})
+    return [f"{name}: the heading {it!r} stands twice" for it in twice]
+
+
 def dead_links(name):
     told, at = [], os.path.dirname(name)
     for target in re.findall(r"\]\(([^)\s]+)\)", text_of(name)):
@@ -321,7 +330,7 @@ def main():
             put(name, split(text_of(name)))
     known, told = words_of_code(names), []
     for name in pages():
-        told += unsplit(name) + dead_links(name)
+        told += unsplit(name) + dead_links(name) + headings_twice(name)
         if name != "CHANGES.md":
             told += unknown_words(name, known, names)
     told += files_of_a_rule(names) + crates_of_gate() + crates_of_proved()
