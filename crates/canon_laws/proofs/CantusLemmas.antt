@@ -18,11 +18,11 @@ use Rattle.rule_law.specs.Growth.{sum_below}
 use Rattle.rule_law.specs.Nearby.{pitch_at, previous_pitches}
 use Rattle.rule_law.specs.Voices.{count_free}
 use Rattle.penalty_sheet.specs.declared.sheet.Sheet.{Sheet}
-use Rattle.penalty_sheet.specs.Weights.{weight_of}
+use Rattle.penalty_sheet.specs.Weights.{weight_of, charge}
 use Rattle.canon_space.specs.Rules.{columns_of}
 use Rattle.cantus_space.specs.declared.plan.CantusPlan.{CantusPlan}
 use Rattle.cantus_space.specs.Melody.{charged, ends_cost}
-use Rattle.cantus_space.specs.Rules.{charge, gauge_cost, leap_excess, least_gauges, least_melody, note_cost, paid}
+use Rattle.cantus_space.specs.Rules.{gauge_cost, leap_excess, least_gauges, least_melody, note_cost, paid}
 use Rattle.canon_laws.specs.BookCosts.{costs_in_bar}
 use Rattle.canon_laws.specs.CantusCosts.{CantusFloorIsTheBooks, CantusPenaltyIsTheBooks, NoteCostsAreTheBooks, alone, bars_of, note_bar, tolls_paid, voice_paid}
 use Rattle.canon_laws.proofs.BarColumns.{held_columns, reverse-columns}

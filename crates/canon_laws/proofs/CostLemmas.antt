@@ -22,10 +22,10 @@ use Rattle.melody_rules.specs.Rows.{charges_move, last_of, leaves_open, open_lea
 use Rattle.motion_rules.specs.Runs.{four_bar_lines, imperfect_runs, is_imperfect_of, keep_on, sound_imperfect}
 use Rattle.dissonance_rules.specs.Rows.{is_outer_perfect}
 use Rattle.penalty_sheet.specs.declared.sheet.Sheet.{Sheet}
-use Rattle.penalty_sheet.specs.Weights.{weight_of}
+use Rattle.penalty_sheet.specs.Weights.{weight_of, charge}
 use Rattle.canon_space.specs.declared.canon.Canon.{Canon}
 use Rattle.canon_space.specs.Canons.{bar_before}
-use Rattle.canon_space.specs.Rules.{bar_cost, charge, columns_of, columns_of_bar, four_bars, goes_on, is_inner, keeps_on, paid, penalty_of, sounded_before}
+use Rattle.canon_space.specs.Rules.{bar_cost, columns_of, columns_of_bar, four_bars, goes_on, is_inner, keeps_on, paid, penalty_of, sounded_before}
 use Rattle.canon_laws.specs.BookCosts.{CanonCostsAreTheBooks, CanonPenaltyIsTheBooks, costs_in_bar, paid_by_the_book}
 use Rattle.canon_laws.specs.BookRules.{as_exercise}
 use Rattle.canon_laws.proofs.BarColumns.{column-of_bar, earlier-bar, held_columns}

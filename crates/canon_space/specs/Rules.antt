@@ -16,7 +16,7 @@ use Rattle.motion_rules.specs.Runs.{keep_on, sound_imperfect}
 use Rattle.dissonance_rules.specs.Rows.{clash_at_start}
 use Rattle.rhythm_cadence.specs.Rows.{holds_of_pitch, is_final_in, may_end}
 use Rattle.penalty_sheet.specs.declared.sheet.Sheet.{Sheet}
-use Rattle.penalty_sheet.specs.Weights.{weight_of}
+use Rattle.penalty_sheet.specs.Weights.{charge}
 use Rattle.canon_space.specs.declared.canon.Canon.{Canon}
 use Rattle.canon_space.specs.Canons.{Bars, bar_after, bar_before, is_canon_bar, opens_on_final}
 
@@ -79,10 +79,6 @@ may_come canon behind now =
 abbrev pub is_live : Canon → Bars → Bool
 is_live canon [] = true
 is_live canon (now ∷ behind) = is_live canon behind && may_come canon behind now
-
--- the weight of a toll where it stands, else nothing
-abbrev pub charge : Sheet → ℕ → Bool → ℕ
-charge sheet toll stands = if stands then weight_of sheet toll else 0
 
 -- Q7 to Q10: what the move costs by which a voice comes to the next bar after notes of these
 -- pitches, the latest first

@@ -6,7 +6,6 @@ ghost use Rattle.melody_rules.specs.Notes.{IsNotesOf};
 ghost use Rattle.melody_rules.specs.Rows.{pitches};
 ghost use Rattle.canon_space.specs.Kept.{history_of};
 ghost use Rattle.canon_space.specs.Rules as rules;
-ghost use Rattle.penalty_sheet.specs.Weights.{greatest_toll};
 
 use crate::bars::{Bar, bar_before};
 use crate::canon::Canon;
@@ -14,22 +13,8 @@ use crate::pairs::is_inner;
 use fux_grid::Cell;
 use melody_rules::{VoiceNotes, leap_open_after, toll_of_move};
 use motion_rules::sound_imperfect;
-use penalty_sheet::{Sheet, weight};
+use penalty_sheet::{Sheet, toll_if, weight};
 use rule_law::{move_alike, sound_perfect};
-
-/// The weight of a toll where it stands, else nothing.
-fn charge(sheet: &Sheet, toll: u8, stands: bool) -> u64
-    requires first { 1 ≤ toll }
-    requires last { toll ≤ greatest_toll }
-    ensures value { result ≡ rules.charge sheet.now toll stands }
-    ensures bound { result ≤ 65535 }
-{
-    if stands {
-        u64::from(weight(sheet, toll))
-    } else {
-        0
-    }
-}
 
 /// Q7 to Q10: what the move of a voice with these notes costs.
 fn move_cost(sheet: &Sheet, notes: &VoiceNotes, now: Cell) -> u64
@@ -49,7 +34,7 @@ pub fn voice_cost(sheet: &Sheet, notes: &VoiceNotes, now: Cell) -> u64
         result ≡ rules.voice_cost sheet.now (pitches cells) now }
     ensures bound { result ≤ 131070 }
 {
-    move_cost(sheet, notes, now) + charge(sheet, 13, leap_open_after(notes, now))
+    move_cost(sheet, notes, now) + toll_if(sheet, 13, leap_open_after(notes, now))
 }
 
 /// Whether the bar after these bars and the three before it begin with imperfect intervals of so
@@ -76,10 +61,10 @@ pub fn pair_cost(canon: &Canon, sheet: &Sheet, behind: &[Bar], now: &[Cell]) -> 
     ensures value { result ≡ rules.pair_cost canon.now sheet.now (history_of behind.now) now.now }
     ensures bound { result ≤ 196605 }
 {
-    charge(
+    toll_if(
         sheet,
         1,
         is_inner(canon, behind) && sound_perfect(now, 0, 1),
-    ) + charge(sheet, 11, move_alike(bar_before(behind, 1), now, 0, 1))
-        + charge(sheet, 14, keeps_on(behind, now))
+    ) + toll_if(sheet, 11, move_alike(bar_before(behind, 1), now, 0, 1))
+        + toll_if(sheet, 14, keeps_on(behind, now))
 }

@@ -8,13 +8,13 @@ use Rattle.fux_grid.specs.declared.cell.Cell.TheVariants.{Start}
 use Rattle.melody_rules.specs.Gauges.{beyond_fourth, climax_repeats, is_narrow, leaps_in}
 use Rattle.melody_rules.specs.Rows.{before_last, last_of, leaves_open, on_moves, pays_move}
 use Rattle.penalty_sheet.specs.declared.sheet.Sheet.{Sheet}
-use Rattle.penalty_sheet.specs.Weights.{weight_of}
+use Rattle.penalty_sheet.specs.Weights.{weight_of, charge}
 use Rattle.cantus_prices.specs.declared.prices.CantusPrices.{CantusPrices}
 use Rattle.cantus_prices.specs.Prices.{price_of}
 use Rattle.cantus_space.specs.declared.plan.CantusPlan.{CantusPlan}
 use Rattle.cantus_space.specs.Lawful.{penalty_of}
 use Rattle.cantus_space.specs.Melody.{climax_bar, is_altered, is_central, is_the, moves_one_way, price_if, stays_out}
-use Rattle.cantus_space.specs.Rules.{charge, leap_excess}
+use Rattle.cantus_space.specs.Rules.{leap_excess}
 use Rattle.cantus_charges.specs.declared.charge.Bill.{Bill}
 use Rattle.cantus_charges.specs.declared.charge.CantusCharge.{CantusCharge}
 use Rattle.cantus_charges.specs.declared.charge.Penalty.{Penalty}

@@ -6,9 +6,7 @@ ghost use Rattle.fux_grid.specs.declared.cell.Cell.{Cell as ACell};
 ghost use Rattle.fux_grid.specs.declared.cell.Cell.TheVariants.{Start};
 ghost use Rattle.melody_rules.specs.Notes.{IsNotesOf};
 ghost use Rattle.melody_rules.specs.Rows.{pays_move, pitches};
-ghost use Rattle.penalty_sheet.specs.Weights.{greatest_toll};
 ghost use Rattle.cantus_space.specs.Nodes.{HasPitches};
-ghost use Rattle.cantus_space.specs.Rules.{charge};
 ghost use Rattle.cantus_charges.specs.Charges as words;
 
 use crate::charge::{CantusCharge, Penalty, put};
@@ -17,20 +15,7 @@ use cantus_space::{CantusNode, CantusPlan, is_altered, is_the, leaves_leap, pric
 use fux_grid::Cell;
 use fux_pitch::{Memory, Pitch};
 use melody_rules::{VoiceNotes, leap_open_after, toll_of_move};
-use penalty_sheet::{Sheet, weight};
-
-/// The weight of a toll where it stands, else nothing.
-fn toll_if(sheet: &Sheet, toll: u8, stands: bool) -> u64
-    requires first { 1 ≤ toll }
-    requires last { toll ≤ greatest_toll }
-    ensures { result ≡ charge sheet.now toll stands }
-{
-    if stands {
-        u64::from(weight(sheet, toll))
-    } else {
-        0
-    }
-}
+use penalty_sheet::{Sheet, toll_if};
 
 /// Whether one of Q7 to Q10 stands for the move to the next pitch.
 fn stands_for(toll: u8, last: Option<Pitch>, pitch: Pitch) -> bool

@@ -7,6 +7,7 @@ use Rattle.std.proofs.lemmas.Bool.{eq-eqb, ne_eqb}
 use Rattle.std.specs.List.{find}
 use Rattle.std.specs.Option.{option_map_or}
 use Rattle.std.specs.Prelude.{if◌then◌else◌, [], ◌∷◌, ◌&&◌, true, false}
+use Rattle.std.specs.Ordering.{is_lt, is_eq}
 use Rattle.fux_pitch.specs.declared.pitch.Pitch.{Pitch}
 use Rattle.cantus_space.specs.declared.plan.CantusPlan.{CantusPlan}
 use Rattle.cantus_space.specs.Lawful.{IsEarlier}
@@ -14,7 +15,7 @@ use Rattle.cantus_space.specs.Rules.{floor_of}
 use Rattle.cert_text.specs.declared.claim.Claim.TheVariants.{Open, Broken, Floor, TheScore}
 use Rattle.cantus_law.specs.Claims.{IsCantusOf, IsNoBetter, Said}
 use Rattle.cantus_law.specs.Known.{order_with}
-use Rattle.cantus_law.specs.Writer.{first_claim, is_cantus_of, is_equal, is_less, is_no_better, least_break, pitches_order}
+use Rattle.cantus_law.specs.Writer.{first_claim, is_cantus_of, is_no_better, least_break, pitches_order}
 use Rattle.cantus_law.proofs.WrittenCantus.{cantus_from_test, less-order, less_from_test, no_better_from_test, order-less, test_from_cantus, test_from_no_better}
 
 -- of no pitches and a cantus nothing differs
@@ -32,7 +33,7 @@ module _ (said : Said) (best : ℕ × List Pitch) (is : said ≡ Some best) (ps 
   goes_so = goes ∙ ap (λ s. order_with s ps) is
 
   -- a floor that is the penalty is no better where the pitches are later
-  pub tied_truth : (floor value : ℕ) (b : Bool) → floor ≡ value → floor ≡ best.0 → b ≡ is_less order
+  pub tied_truth : (floor value : ℕ) (b : Bool) → floor ≡ value → floor ≡ best.0 → b ≡ is_lt order
       → IsTrue b ↔ IsNoBetter said ps value
   tied_truth floor value b here same test =
       subst (λ s. IsTrue b ↔ IsNoBetter s ps value) (sym is) (there, back)
@@ -42,7 +43,7 @@ module _ (said : Said) (best : ℕ × List Pitch) (is : said ≡ Some best) (ps 
 
       back : (best.0 < value) ⊎ ((value ≡ best.0) × IsEarlier best.1 ps) → IsTrue b
       back (inl h) = absurd (omega (arith, h, here, same))
-      back (inr h) = test ∙ ap is_less (goes_so ∙ less-order best.1 ps h.1)
+      back (inr h) = test ∙ ap is_lt (goes_so ∙ less-order best.1 ps h.1)
 
   -- one that is lower isn't
   pub lower_truth : (floor value : ℕ) (b : Bool) → floor ≡ value → floor ≤ best.0 → floor ≢ best.0 → b ≡ nat_eq floor best.0
@@ -58,15 +59,15 @@ module _ (said : Said) (best : ℕ × List Pitch) (is : said ≡ Some best) (ps 
       back (inr h) = absurd (differ (here ∙ h.0))
 
   -- as many pitches as the cantus has are it where none differs
-  pub cantus_truth : (len : ℕ) (b : Bool) → len ≡ length ps → len ≡ length best.1 → b ≡ is_equal order
+  pub cantus_truth : (len : ℕ) (b : Bool) → len ≡ length ps → len ≡ length best.1 → b ≡ is_eq order
       → IsTrue b ↔ IsCantusOf said ps
   cantus_truth len b size whole test =
       subst (λ s. IsTrue b ↔ IsCantusOf s ps) (sym is) (
         (λ h. cantus_from_test (Some best) ps
-            (ap (λ t. t && is_equal (pitches_order best.1 ps)) (eq-eqb (length ps) (length best.1) (sym size ∙ whole))
-            ∙ sym (ap is_equal goes_so) ∙ sym test ∙ h)),
-        (λ h. test ∙ ap is_equal goes_so
-            ∙ sym (ap (λ t. t && is_equal (pitches_order best.1 ps)) (eq-eqb (length ps) (length best.1) (sym size ∙ whole)))
+            (ap (λ t. t && is_eq (pitches_order best.1 ps)) (eq-eqb (length ps) (length best.1) (sym size ∙ whole))
+            ∙ sym (ap is_eq goes_so) ∙ sym test ∙ h)),
+        (λ h. test ∙ ap is_eq goes_so
+            ∙ sym (ap (λ t. t && is_eq (pitches_order best.1 ps)) (eq-eqb (length ps) (length best.1) (sym size ∙ whole)))
             ∙ test_from_cantus (Some best) ps h),
       )
 

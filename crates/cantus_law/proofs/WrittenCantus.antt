@@ -11,6 +11,7 @@ use Rattle.std.proofs.lemmas.Bool.{and_from, and_parts, cases_Bool, cases_lt, eq
 use Rattle.std.proofs.lemmas.Bool.Decides.{nat_tests}
 use Rattle.std.proofs.lemmas.List.{length-append, length-reverse, reverse-append}
 use Rattle.std.proofs.lemmas.List.Elements.{filter_passes, recursion_from_All}
+use Rattle.std.specs.Ordering.{is_lt, is_eq}
 use Rattle.cert_text.specs.declared.claim.Claim.{Claim}
 use Rattle.cert_text.specs.declared.claim.Claim.TheVariants.{Open, Broken, NoChain, Floor, TheScore}
 use Rattle.cert_tree.specs.Trees.{AreTrueFrom}
@@ -30,7 +31,7 @@ use Rattle.cert_tree.proofs.OwnClaims.{written_from}
 use Rattle.cantus_law.specs.Certificates.{Holds, IsCantusCertificate, IsHeadSound, is_open, tree_of}
 use Rattle.cantus_law.specs.Claims.{IsCantusOf, IsNoBetter, IsTrueOf, Said, has_break_of, longer_lists}
 use Rattle.cantus_law.specs.Orders.{earlier-cases, earlier-itself, pitch-itself}
-use Rattle.cantus_law.specs.Writer.{claims_of, first_claim, is_cantus_of, is_equal, is_less, is_no_better, least_break, pitches_order, unbroken_claim}
+use Rattle.cantus_law.specs.Writer.{claims_of, first_claim, is_cantus_of, is_no_better, least_break, pitches_order, unbroken_claim}
 
 -- ---- tests
 
@@ -90,12 +91,12 @@ less-order (p ∷ s) (q ∷ t) (inr h) =
     let same : pitch_order p q ≡ Equal = ap (pitch_order p) (sym h.0) ∙ pitch-itself p in
     rw same (less-order s t h.1)
 
-pub less_from_test : (o : Ordering) → is_less o ≡ true → o ≡ Less
+pub less_from_test : (o : Ordering) → is_lt o ≡ true → o ≡ Less
 less_from_test Less h = refl
 less_from_test Equal h = cc
 less_from_test Greater h = cc
 
-pub equal_from_test : (o : Ordering) → is_equal o ≡ true → o ≡ Equal
+pub equal_from_test : (o : Ordering) → is_eq o ≡ true → o ≡ Equal
 equal_from_test Less h = cc
 equal_from_test Equal h = refl
 equal_from_test Greater h = cc
@@ -103,16 +104,16 @@ equal_from_test Greater h = cc
 pub cantus_from_test : (said : Said) (ps : List Pitch) → is_cantus_of said ps ≡ true → IsCantusOf said ps
 cantus_from_test None ps h = cc
 cantus_from_test (Some best) ps h =
-    let parts = and_parts (length ps == length best.1) (is_equal (pitches_order best.1 ps)) h in
+    let parts = and_parts (length ps == length best.1) (is_eq (pitches_order best.1 ps)) h in
     let size : length ps ≡ length best.1 = eqb-true (length ps) (length best.1) parts.0 in
     sym (order-equal best.1 ps (sym size) (equal_from_test (pitches_order best.1 ps) parts.1))
 
 pub test_from_cantus : (said : Said) (ps : List Pitch) → IsCantusOf said ps → is_cantus_of said ps ≡ true
 test_from_cantus None ps h = absurd h
 test_from_cantus (Some best) ps h =
-    ap (λ q. (length q == length best.1) && is_equal (pitches_order best.1 q)) h
-    ∙ ap (λ b. b && is_equal (pitches_order best.1 best.1)) (eq-eqb (length best.1) (length best.1) refl)
-    ∙ ap is_equal (order-itself best.1)
+    ap (λ q. (length q == length best.1) && is_eq (pitches_order best.1 q)) h
+    ∙ ap (λ b. b && is_eq (pitches_order best.1 best.1)) (eq-eqb (length best.1) (length best.1) refl)
+    ∙ ap is_eq (order-itself best.1)
 
 pub no_better_from_test : (said : Said) (ps : List Pitch) (floor : ℕ) → is_no_better said ps floor ≡ true
     → IsNoBetter said ps floor
@@ -122,8 +123,8 @@ no_better_from_test (Some best) ps floor h = at (cases_Bool (nat_lt best.0 floor
     at : (nat_lt best.0 floor ≡ true) ⊎ (nat_lt best.0 floor ≡ false) → IsNoBetter (Some best) ps floor
     at (inl t) = inl (below_from_test best.0 floor t)
     at (inr f) =
-        let rest : ((floor == best.0) && is_less (pitches_order best.1 ps)) ≡ true = rw f at h in
-        let parts = and_parts (floor == best.0) (is_less (pitches_order best.1 ps)) rest in
+        let rest : ((floor == best.0) && is_lt (pitches_order best.1 ps)) ≡ true = rw f at h in
+        let parts = and_parts (floor == best.0) (is_lt (pitches_order best.1 ps)) rest in
         inr (
           eqb-true floor best.0 parts.0,
           order-less best.1 ps (less_from_test (pitches_order best.1 ps) parts.1),
@@ -133,10 +134,10 @@ pub test_from_no_better : (said : Said) (ps : List Pitch) (floor : ℕ) → IsNo
     → is_no_better said ps floor ≡ true
 test_from_no_better None ps floor h = absurd h
 test_from_no_better (Some best) ps floor (inl h) =
-    ap (λ b. b || ((floor == best.0) && is_less (pitches_order best.1 ps))) (lt-ltb best.0 floor h)
+    ap (λ b. b || ((floor == best.0) && is_lt (pitches_order best.1 ps))) (lt-ltb best.0 floor h)
 test_from_no_better (Some best) ps floor (inr h) =
-    ap (λ b. nat_lt best.0 floor || (b && is_less (pitches_order best.1 ps))) (eq-eqb floor best.0 h.0)
-    ∙ ap (λ o. nat_lt best.0 floor || is_less o) (less-order best.1 ps h.1) ∙ or_true (nat_lt best.0 floor)
+    ap (λ b. nat_lt best.0 floor || (b && is_lt (pitches_order best.1 ps))) (eq-eqb floor best.0 h.0)
+    ∙ ap (λ o. nat_lt best.0 floor || is_lt o) (less-order best.1 ps h.1) ∙ or_true (nat_lt best.0 floor)
   where
     or_true : (b : Bool) → (b || true) ≡ true
     or_true true = refl
@@ -193,11 +194,11 @@ whole_is_closed plan (Some best) holds t lawful other better =
     value : ℕ
     value = penalty_of plan t
 
-    fails : (nat_lt best.0 value || ((value == best.0) && is_less (pitches_order best.1 t))) ≡ false
+    fails : (nat_lt best.0 value || ((value == best.0) && is_lt (pitches_order best.1 t))) ≡ false
     fails = sym (ap (is_no_better (Some best) t) (floor_at_end plan t lawful.whole)) ∙ better
 
-    parts : (nat_lt best.0 value ≡ false) × (((value == best.0) && is_less (pitches_order best.1 t)) ≡ false)
-    parts = or_parts (nat_lt best.0 value) ((value == best.0) && is_less (pitches_order best.1 t)) fails
+    parts : (nat_lt best.0 value ≡ false) × (((value == best.0) && is_lt (pitches_order best.1 t)) ≡ false)
+    parts = or_parts (nat_lt best.0 value) ((value == best.0) && is_lt (pitches_order best.1 t)) fails
 
     same : value ≡ best.0
     same = exactly best.0 value (penalty_of plan best.1) parts.0 (holds.0.least t lawful) holds.1
@@ -207,8 +208,8 @@ whole_is_closed plan (Some best) holds t lawful other better =
 
     not_less : pitches_order best.1 t ≡ Less → ⊥
     not_less h =
-        true≢false (sym (ap (λ b. b && is_less (pitches_order best.1 t)) (eq-eqb value best.0 same)
-        ∙ ap is_less h) ∙ parts.1)
+        true≢false (sym (ap (λ b. b && is_lt (pitches_order best.1 t)) (eq-eqb value best.0 same)
+        ∙ ap is_lt h) ∙ parts.1)
 
     at : IsEarlier best.1 t ⊎ ((best.1 ≡ t) ⊎ IsEarlier t best.1) → ⊥
     at (inl h) = not_less (less-order best.1 t h)

@@ -1,10 +1,10 @@
 -- The certificate that is written: for each list of pitches the first claim that is true of it.
-use Rattle.std.specs.Prelude.{ℕ, Bool, true, false, ◌&&◌, ◌||◌, ◌==◌, nat_lt, List, [], ◌∷◌, Option, None, Some, length, reverse, if◌then◌else◌}
+use Rattle.std.specs.Prelude.{ℕ, Bool, false, ◌&&◌, ◌||◌, ◌==◌, nat_lt, List, [], ◌∷◌, Option, None, Some, length, reverse, if◌then◌else◌}
 use Rattle.std.specs.List.{find}
 use Rattle.std.specs.Option.{option_map_or}
-use Rattle.std.specs.Ordering.{ordering_then}
+use Rattle.std.specs.Ordering.{ordering_then, is_lt, is_eq}
 use Rattle.std.specs.declared.cmp.Ordering.{Ordering}
-use Rattle.std.specs.declared.cmp.Ordering.TheVariants.{Less, Equal, Greater}
+use Rattle.std.specs.declared.cmp.Ordering.TheVariants.{Equal}
 use Rattle.cert_text.specs.declared.claim.Claim.{Claim}
 use Rattle.cert_text.specs.declared.claim.Claim.TheVariants.{Open, Broken, Floor, TheScore}
 use Rattle.cert_tree.specs.Trees.{claims_from}
@@ -16,16 +16,6 @@ use Rattle.cantus_space.specs.Broken.{rules_claimed}
 use Rattle.cantus_law.specs.Claims.{Said, has_break_of}
 use Rattle.cantus_law.specs.Certificates.{tree_of}
 
-abbrev pub is_less : Ordering → Bool
-is_less Less = true
-is_less Equal = false
-is_less Greater = false
-
-abbrev pub is_equal : Ordering → Bool
-is_equal Less = false
-is_equal Equal = true
-is_equal Greater = false
-
 -- how two lists go by the first pitch in which they differ; they are equal there where they differ
 -- in none that both have
 abbrev pub pitches_order : List Pitch → List Pitch → Ordering
@@ -36,13 +26,13 @@ pitches_order (p ∷ s) (q ∷ t) = ordering_then (pitch_order p q) (pitches_ord
 -- whether the pitches are the head's cantus
 abbrev pub is_cantus_of : Said → List Pitch → Bool
 is_cantus_of None ps = false
-is_cantus_of (Some best) ps = (length ps == length best.1) && is_equal (pitches_order best.1 ps)
+is_cantus_of (Some best) ps = (length ps == length best.1) && is_eq (pitches_order best.1 ps)
 
 -- whether a floor is no better than the head's cantus
 abbrev pub is_no_better : Said → List Pitch → ℕ → Bool
 is_no_better None ps floor = false
 is_no_better (Some best) ps floor =
-    nat_lt best.0 floor || ((floor == best.0) && is_less (pitches_order best.1 ps))
+    nat_lt best.0 floor || ((floor == best.0) && is_lt (pitches_order best.1 ps))
 
 -- the least rule that is broken
 abbrev pub least_break : CantusPlan → List Pitch → Option ℕ

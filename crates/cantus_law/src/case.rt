@@ -3,7 +3,6 @@
 ghost use Rattle.std.specs.Prelude.{◌≡◌, ◌↔◌, ◌<◌, IsTrue, [], ◌∷◌, ◌++◌, List, length};
 ghost use Rattle.cert_text.specs.declared.claim.Claim.TheVariants as claims;
 ghost use Rattle.fux_pitch.specs.declared.pitch.Pitch.{Pitch as APitch};
-ghost use Rattle.fux_grid.specs.Order as order_words;
 ghost use Rattle.std.specs.List.{find};
 ghost use Rattle.rule_law.specs.Voices.{has_rule};
 ghost use Rattle.cantus_space.specs.Broken.{rules_claimed};
@@ -17,7 +16,8 @@ use cantus_space::CantusSpace;
 use cantus_text::CantusHead;
 use cert_text::Claim;
 use cert_tree::ClaimTree;
-use fux_pitch::{Pitch, semitone};
+use fux_grid::pitch_order;
+use fux_pitch::Pitch;
 use rule_law::RuleSet;
 use std::cmp::Ordering;
 
@@ -26,35 +26,6 @@ use std::cmp::Ordering;
 pub struct CantusCase {
     pub space: CantusSpace,
     pub head: CantusHead,
-}
-
-/// Pitches go by key, then by degree.
-fn pitch_order(p: Pitch, q: Pitch) -> Ordering
-    ensures { result ≡ order_words.pitch_order p q }
-{
-    semitone(p)
-        .cmp(&semitone(q))
-        .then(p.degree().cmp(&q.degree()))
-}
-
-fn is_less(order: Ordering) -> bool
-    ensures { result ≡ words.is_less order }
-{
-    match order {
-        Ordering::Less => true,
-        Ordering::Equal => false,
-        Ordering::Greater => false,
-    }
-}
-
-fn is_equal(order: Ordering) -> bool
-    ensures { result ≡ words.is_equal order }
-{
-    match order {
-        Ordering::Less => false,
-        Ordering::Equal => true,
-        Ordering::Greater => false,
-    }
 }
 
 /// How a cantus goes against pitches and one more, where it goes against so many of them in this
@@ -73,23 +44,11 @@ fn order_after(cantus: &[Pitch], len: usize, before: Ordering, pitch: Pitch) -> 
 /// The rules that claims name, in order.
 const CLAIMED: [u8; 6] = [2, 4, 6, 7, 8, 9];
 
-/// The first of these rules that is in a set.
-fn first_broken(rules: &[u8], broken: RuleSet) -> Option<u8>
-    ensures { result ≡ find (has_rule broken.bits) rules.now }
-{
-    for rule in rules {
-        if broken.has(*rule) {
-            return Some(*rule);
-        }
-    }
-    None
-}
-
 /// The least rule that is in a set, of those that claims name.
 fn least_rule(broken: RuleSet) -> Option<u8>
     ensures { result ≡ find (has_rule broken.bits) rules_claimed }
 {
-    first_broken(&CLAIMED, broken)
+    broken.first_of(&CLAIMED)
 }
 
 impl CantusCase {
@@ -130,7 +89,7 @@ impl CantusCase {
             None => false,
             Some((penalty, _)) => {
                 let floor = self.space.floor(&known.node);
-                *penalty < floor || (floor == *penalty && is_less(known.order))
+                *penalty < floor || (floor == *penalty && known.order.is_lt())
             }
         }
     }
@@ -142,7 +101,7 @@ impl CantusCase {
     {
         match &self.head.best {
             None => false,
-            Some((_, cantus)) => known.len == cantus.as_slice().len() && is_equal(known.order),
+            Some((_, cantus)) => known.len == cantus.as_slice().len() && known.order.is_eq(),
         }
     }
 }

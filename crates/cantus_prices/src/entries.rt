@@ -1,15 +1,13 @@
 //! The entries of the table of prices: what may be wrong with them, and what they say.
 
 ghost use Rattle.std.specs.Prelude.{◌≡◌, true, ◌≢◌, ◌≤◌, ◌≤ℤ◌, pos, None, Some, IfErr, OnOk};
-ghost use Rattle.std.specs.Option.{option_and_then};
-ghost use Rattle.toml.specs.Data.{as_integer, get_member};
 ghost use Rattle.toml.specs.View.{view, table_view};
 ghost use Rattle.penalty_sheet.specs.Sheets.{first_fault, keys_ascend};
 ghost use Rattle.cantus_prices.specs.Prices.{greatest_price};
 ghost use Rattle.cantus_prices.specs.PricedSheets.{is_price_key, key_fault, price_fault, price_in, price_key, prices_in};
 
 use crate::prices::{CantusPrices, GREATEST_PRICE};
-use penalty_sheet::{SheetFault, label};
+use penalty_sheet::{SheetFault, label, number_at};
 use std::alloc::Global;
 use toml::{Table, Value};
 
@@ -100,16 +98,6 @@ fn kept(weight: i64) -> u16
     ensures { pos result ≡ weight }
 {
     weight as u16
-}
-
-/// The whole number at a key, if there is one.
-fn number_at(table: &Table, key: &str) -> Option<i64>
-    ensures { result ≡ option_and_then as_integer (get_member key.now (table_view table.now)) }
-{
-    match table.get(key) {
-        Some(value) => value.as_integer(),
-        None => None,
-    }
 }
 
 /// The price of a row in a table of prices: 0 where the table has none for it.

@@ -9,7 +9,7 @@ use Rattle.fux_grid.specs.declared.cell.Cell.TheVariants.{Start}
 use Rattle.melody_rules.specs.Gauges.{beyond_fourth, climax_repeats, is_narrow, leaps_in, moves_in}
 use Rattle.melody_rules.specs.Rows.{last_of, leaves_open, moves_unmelodically, pays_move, window_rule}
 use Rattle.penalty_sheet.specs.declared.sheet.Sheet.{Sheet}
-use Rattle.penalty_sheet.specs.Weights.{weight_of}
+use Rattle.penalty_sheet.specs.Weights.{charge, weight_of}
 use Rattle.cantus_space.specs.declared.plan.CantusPlan.{CantusPlan}
 use Rattle.cantus_space.specs.Cantus.{is_in_pool, may_sound}
 use Rattle.cantus_space.specs.Melody.{charged, least_ends}
@@ -37,10 +37,6 @@ may_come plan behind p =
 abbrev pub is_live : CantusPlan → List Pitch → Bool
 is_live plan [] = true
 is_live plan (p ∷ behind) = is_live plan behind && may_come plan behind p
-
--- the weight of a toll where it stands, else nothing
-abbrev pub charge : Sheet → ℕ → Bool → ℕ
-charge sheet toll stands = if stands then weight_of sheet toll else 0
 
 -- Q7 to Q10: what the move to the next pitch costs
 abbrev pub move_cost : Sheet → List Pitch → Pitch → ℕ

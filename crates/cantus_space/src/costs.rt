@@ -5,13 +5,13 @@ ghost use Rattle.fux_grid.specs.declared.cell.Cell.{Cell as ACell};
 ghost use Rattle.melody_rules.specs.Notes.{IsNotesOf};
 ghost use Rattle.fux_grid.specs.declared.cell.Cell.TheVariants.{Start};
 ghost use Rattle.melody_rules.specs.Rows.{leaves_open, pitches};
-ghost use Rattle.penalty_sheet.specs.Weights.{greatest_toll, weight_of};
+ghost use Rattle.penalty_sheet.specs.Weights.{greatest_toll, weight_of, charge};
 ghost use Rattle.cantus_space.specs.Rules as rules;
 
 use fux_grid::Cell;
 use fux_pitch::Pitch;
 use melody_rules::{VoiceNotes, leap_open_after, toll_of_move};
-use penalty_sheet::{Sheet, weight};
+use penalty_sheet::{Sheet, toll_if, weight};
 
 /// Q7 to Q10: what the move to the next pitch costs.
 fn move_cost(sheet: &Sheet, notes: &VoiceNotes, pitch: Pitch) -> u64
@@ -28,14 +28,10 @@ fn move_cost(sheet: &Sheet, notes: &VoiceNotes, pitch: Pitch) -> u64
 /// Q13: what it costs that a leap is left open.
 fn open_cost(sheet: &Sheet, notes: &VoiceNotes, pitch: Pitch) -> u64
     ensures value { (cells : List ACell) → IsNotesOf cells notes.now →
-        result ≡ rules.charge sheet.now 13 (leaves_open (pitches cells) (Start pitch)) }
+        result ≡ charge sheet.now 13 (leaves_open (pitches cells) (Start pitch)) }
     ensures bound { result ≤ 65535 }
 {
-    if leap_open_after(notes, Cell::Start(pitch)) {
-        u64::from(weight(sheet, 13))
-    } else {
-        0
-    }
+    toll_if(sheet, 13, leap_open_after(notes, Cell::Start(pitch)))
 }
 
 /// What the next pitch costs after these notes.

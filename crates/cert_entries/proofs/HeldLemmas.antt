@@ -13,13 +13,13 @@ use Rattle.cert_law.specs.Entries.{AllowsSum, IsTrueBefore, entry_of, menu_colum
 use Rattle.cert_text.specs.declared.potential.Potential.{Potential}
 use Rattle.cert_text.specs.declared.potential.Potential.TheVariants.{Least, NoChain}
 use Rattle.chain_sums.specs.Chains.{plus}
-use Rattle.chain_sums.specs.Still.{IsStill, all_hold, is_hold}
+use Rattle.chain_sums.specs.Still.{IsStill, all_hold}
 use Rattle.chain_sums.specs.Sums.{column_follows}
 use Rattle.chain_sums.proofs.SumLemmas.{column_follows_is}
 use Rattle.fux_grid.specs.declared.cell.Cell.{Cell}
 use Rattle.fux_grid.specs.declared.cell.Cell.TheVariants.{Rest, Hold, Start}
 use Rattle.fux_grid.specs.declared.exercise.Exercise.{Exercise}
-use Rattle.fux_grid.specs.Cells.{cell_follows}
+use Rattle.fux_grid.specs.Cells.{cell_follows, is_hold}
 use Rattle.fux_grid.specs.Columns.{ColumnFollows}
 use Rattle.fux_grid.specs.Menus.{menu_of}
 use Rattle.fux_grid.specs.Order.{column_order}

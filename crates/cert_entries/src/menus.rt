@@ -3,9 +3,10 @@
 ghost use Rattle.std.specs.Prelude.{◌≡◌, ◌<◌, ◌≤◌, ◌^◌, true, length, IfErr, IfOk, OnOk};
 ghost use Rattle.cert_entries.specs.Faults.{TellsMenu, TellsWidth};
 ghost use Rattle.cert_entries.specs.Menus.{AddsMenu, AreMenus, HasMenu};
-ghost use Rattle.chain_sums.specs.Still.{IsStill, all_hold, is_hold};
+ghost use Rattle.chain_sums.specs.Still.{IsStill, all_hold};
 ghost use Rattle.fux_grid.specs.Exercises.{IsValid, columns_in};
 ghost use Rattle.fux_grid.specs.Grid.{items_of};
+ghost use Rattle.fux_grid.specs.Cells.{is_hold};
 
 use crate::entries::EntryFault;
 use fux_grid::{Cell, Column, Exercise, MenuFault, menu, place_of};

@@ -2,9 +2,10 @@
 -- was broken before (`least_more`).
 use Rattle.std.proofs.Common.{◌≡◌, ℕ, ◌==◌, ◌&&◌, ◌||◌, Bool, true, false, List, [], ◌∷◌, ◌++◌, Some, length, refl, ap, ◌∙◌}
 use Rattle.std.specs.List.{list_all}
+use Rattle.std.specs.Ordering.{is_eq}
 use Rattle.cert_law.specs.Claims.{has_break_of}
 use Rattle.cert_law.specs.Soon.{has_length}
-use Rattle.cert_law.specs.Writer.{columns_order, is_equal, is_setting_of, least_break}
+use Rattle.cert_law.specs.Writer.{columns_order, is_setting_of, least_break}
 use Rattle.cert_law.proofs.BreakLemmas.{breaks-push}
 use Rattle.cert_text.specs.declared.answers.CertHead.{CertHead}
 use Rattle.cert_text.specs.declared.answers.CertHead.TheVariants.{Best, Nothing}
@@ -42,5 +43,5 @@ pub unlike : (head : CertHead) (q : List (List Cell)) (count : ℕ) → length q
     → is_setting_of head q ≡ false
 unlike Nothing q count e h = refl
 unlike (Best penalty score) q count e h =
-    ap (λ n. (n == length score.columns) && is_equal (columns_order score.columns q)) e
-    ∙ ap (λ b. b && is_equal (columns_order score.columns q)) h
+    ap (λ n. (n == length score.columns) && is_eq (columns_order score.columns q)) e
+    ∙ ap (λ b. b && is_eq (columns_order score.columns q)) h

@@ -9,6 +9,7 @@ use Rattle.std.specs.declared.cmp.Ordering.{Ordering}
 use Rattle.std.specs.declared.cmp.Ordering.TheVariants.{Less, Equal, Greater}
 use Rattle.std.proofs.lemmas.Bool.{and_parts, cases_Bool, cases_lt, eq-eqb, eqb-true, lt-ltb, or_parts}
 use Rattle.std.proofs.lemmas.Bool.Decides.{nat_tests}
+use Rattle.std.specs.Ordering.{is_lt, is_eq}
 use Rattle.cert_text.specs.declared.answers.CertHead.{CertHead}
 use Rattle.cert_text.specs.declared.answers.CertHead.TheVariants.{Best, Nothing}
 use Rattle.cert_text.specs.declared.claim.Claim.{Claim}
@@ -24,7 +25,7 @@ use Rattle.cert_law.specs.Tails.{tail_of, used_floor}
 use Rattle.cert_law.proofs.FloorFacts.{FloorsHold}
 use Rattle.cert_law.proofs.RestEntries.{rests_are_true}
 use Rattle.cert_law.proofs.TailLemmas.{tail_is_rest, used-floor}
-use Rattle.cert_law.specs.Writer.{claims_of, columns_order, first_claim, is_equal, is_less, is_no_better, is_setting_of, least_break, unbroken_claim}
+use Rattle.cert_law.specs.Writer.{claims_of, columns_order, first_claim, is_no_better, is_setting_of, least_break, unbroken_claim}
 use Rattle.cert_law.proofs.PrefixTruths.{find_passes, owed_are_true, sound, unbroken_if_none}
 use Rattle.cert_law.proofs.Orders.{less-order, order-equal, order-itself, order-less}
 use Rattle.floor_tables.specs.Floors.{rest_of}
@@ -41,12 +42,12 @@ use Rattle.penalty_sheet.specs.declared.sheet.Sheet.{Sheet}
 use Rattle.rule_law.specs.Law.{below_from_test}
 use Rattle.rule_law.specs.Prefixes.{IsPrefix, IsSetting}
 
-less_from_test : (o : Ordering) → is_less o ≡ true → o ≡ Less
+less_from_test : (o : Ordering) → is_lt o ≡ true → o ≡ Less
 less_from_test Less h = refl
 less_from_test Equal h = cc
 less_from_test Greater h = cc
 
-equal_from_test : (o : Ordering) → is_equal o ≡ true → o ≡ Equal
+equal_from_test : (o : Ordering) → is_eq o ≡ true → o ≡ Equal
 equal_from_test Less h = cc
 equal_from_test Equal h = refl
 equal_from_test Greater h = cc
@@ -54,17 +55,17 @@ equal_from_test Greater h = cc
 pub setting_from_test : (head : CertHead) (p : List (List Cell)) → is_setting_of head p ≡ true → IsSettingOf head p
 setting_from_test Nothing p h = cc
 setting_from_test (Best penalty score) p h =
-    let parts = and_parts (length p == length score.columns) (is_equal (columns_order score.columns p)) h in
+    let parts = and_parts (length p == length score.columns) (is_eq (columns_order score.columns p)) h in
     let size : length p ≡ length score.columns = eqb-true (length p) (length score.columns) parts.0 in
     sym (order-equal score.columns p (sym size) (equal_from_test (columns_order score.columns p) parts.1))
 
 pub test_from_setting : (head : CertHead) (p : List (List Cell)) → IsSettingOf head p → is_setting_of head p ≡ true
 test_from_setting Nothing p h = absurd h
 test_from_setting (Best penalty score) p h =
-    ap (λ q. (length q == length score.columns) && is_equal (columns_order score.columns q)) h
-    ∙ ap (λ b. b && is_equal (columns_order score.columns score.columns))
+    ap (λ q. (length q == length score.columns) && is_eq (columns_order score.columns q)) h
+    ∙ ap (λ b. b && is_eq (columns_order score.columns score.columns))
     (eq-eqb (length score.columns) (length score.columns) refl)
-    ∙ ap is_equal (order-itself score.columns)
+    ∙ ap is_eq (order-itself score.columns)
 
 pub no_better_from_test : (head : CertHead) (p : List (List Cell)) (floor : ℕ) → is_no_better head p floor ≡ true
     → IsNoBetter head p floor
@@ -74,8 +75,8 @@ no_better_from_test (Best penalty score) p floor h = at (cases_Bool (nat_lt pena
     at : (nat_lt penalty floor ≡ true) ⊎ (nat_lt penalty floor ≡ false) → IsNoBetter (Best penalty score) p floor
     at (inl t) = inl (below_from_test penalty floor t)
     at (inr f) =
-        let rest : ((floor == penalty) && is_less (columns_order score.columns p)) ≡ true = rw f at h in
-        let parts = and_parts (floor == penalty) (is_less (columns_order score.columns p)) rest in
+        let rest : ((floor == penalty) && is_lt (columns_order score.columns p)) ≡ true = rw f at h in
+        let parts = and_parts (floor == penalty) (is_lt (columns_order score.columns p)) rest in
         inr (
           eqb-true floor penalty parts.0,
           order-less score.columns p
@@ -106,13 +107,13 @@ module _ (ex : Exercise) (sheet : Sheet) (few : ex.voices ≤ 4) (floors : Floor
       value : ℕ
       value = penalty_of ex sheet p
 
-      fails : (nat_lt penalty value || ((value == penalty) && is_less (columns_order score.columns p))) ≡ false
+      fails : (nat_lt penalty value || ((value == penalty) && is_lt (columns_order score.columns p))) ≡ false
       fails = sym (ap (λ floor. option_map_or (is_no_better (Best penalty score) p) floor false)
           (used-floor ex sheet None p refl ∙ floors.at_end p lawful)) ∙ better
 
       same : value ≡ penalty
       same =
-          let most = (or_parts (nat_lt penalty value) ((value == penalty) && is_less (columns_order score.columns p))
+          let most = (or_parts (nat_lt penalty value) ((value == penalty) && is_lt (columns_order score.columns p))
           fails).0 in
           let least = holds.0.least p lawful in
           exactly penalty value (penalty_of ex sheet score.columns) most least holds.1
@@ -122,10 +123,10 @@ module _ (ex : Exercise) (sheet : Sheet) (few : ex.voices ≤ 4) (floors : Floor
 
       not_less : columns_order score.columns p ≡ Less → ⊥
       not_less h =
-          let second = (or_parts (nat_lt penalty value) ((value == penalty) && is_less (columns_order score.columns p))
+          let second = (or_parts (nat_lt penalty value) ((value == penalty) && is_lt (columns_order score.columns p))
           fails).1 in
-          true≢false (sym (ap (λ b. b && is_less (columns_order score.columns p)) (eq-eqb value penalty same)
-          ∙ ap is_less h) ∙ second)
+          true≢false (sym (ap (λ b. b && is_lt (columns_order score.columns p)) (eq-eqb value penalty same)
+          ∙ ap is_lt h) ∙ second)
 
       at : IsEarlier score.columns p ⊎ ((score.columns ≡ p) ⊎ IsEarlier p score.columns) → ⊥
       at (inl h) = not_less (less-order score.columns p h)
@@ -222,10 +223,10 @@ pub test_from_no_better : (head : CertHead) (p : List (List Cell)) (floor : ℕ)
     → is_no_better head p floor ≡ true
 test_from_no_better Nothing p floor h = absurd h
 test_from_no_better (Best penalty score) p floor (inl h) =
-    ap (λ b. b || ((floor == penalty) && is_less (columns_order score.columns p))) (lt-ltb penalty floor h)
+    ap (λ b. b || ((floor == penalty) && is_lt (columns_order score.columns p))) (lt-ltb penalty floor h)
 test_from_no_better (Best penalty score) p floor (inr h) =
-    ap (λ b. nat_lt penalty floor || (b && is_less (columns_order score.columns p))) (eq-eqb floor penalty h.0)
-    ∙ ap (λ o. nat_lt penalty floor || is_less o) (less-order score.columns p h.1) ∙ or_true (nat_lt penalty floor)
+    ap (λ b. nat_lt penalty floor || (b && is_lt (columns_order score.columns p))) (eq-eqb floor penalty h.0)
+    ∙ ap (λ o. nat_lt penalty floor || is_lt o) (less-order score.columns p h.1) ∙ or_true (nat_lt penalty floor)
   where
     or_true : (b : Bool) → (b || true) ≡ true
     or_true true = refl

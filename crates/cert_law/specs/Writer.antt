@@ -1,10 +1,10 @@
 -- The certificate that is written: for each prefix the first claim that is true of it.
-use Rattle.std.specs.Prelude.{ℕ, Bool, true, false, ◌&&◌, ◌||◌, ◌==◌, nat_lt, List, [], ◌∷◌, ◌++◌, Option, Some, None, length, if◌then◌else◌, is_none}
+use Rattle.std.specs.Prelude.{ℕ, Bool, false, ◌&&◌, ◌||◌, ◌==◌, nat_lt, List, [], ◌∷◌, ◌++◌, Option, Some, None, length, if◌then◌else◌, is_none}
 use Rattle.std.specs.List.{find, flat_map}
 use Rattle.std.specs.Option.{option_map_or}
-use Rattle.std.specs.Ordering.{ordering_then}
+use Rattle.std.specs.Ordering.{ordering_then, is_lt, is_eq}
 use Rattle.std.specs.declared.cmp.Ordering.{Ordering}
-use Rattle.std.specs.declared.cmp.Ordering.TheVariants.{Less, Equal, Greater}
+use Rattle.std.specs.declared.cmp.Ordering.TheVariants.{Equal}
 use Rattle.cert_text.specs.declared.answers.CertHead.{CertHead}
 use Rattle.cert_text.specs.declared.answers.CertHead.TheVariants.{Best, Nothing}
 use Rattle.cert_text.specs.declared.claim.Claim.{Claim}
@@ -27,16 +27,6 @@ use Rattle.fux_judge.specs.Rules.{rules_read}
 use Rattle.fux_text.specs.ReadBack.{sing_lines}
 use Rattle.penalty_sheet.specs.declared.sheet.Sheet.{Sheet}
 
-abbrev pub is_less : Ordering → Bool
-is_less Less = true
-is_less Equal = false
-is_less Greater = false
-
-abbrev pub is_equal : Ordering → Bool
-is_equal Less = false
-is_equal Equal = true
-is_equal Greater = false
-
 -- how two lists go by the first column at which they differ; they are equal there where they differ
 -- at none that both have
 abbrev pub columns_order : List (List Cell) → List (List Cell) → Ordering
@@ -47,13 +37,13 @@ columns_order (c ∷ s) (d ∷ t) = ordering_then (column_order c d) (columns_or
 -- whether the prefix is the head's setting
 abbrev pub is_setting_of : CertHead → List (List Cell) → Bool
 is_setting_of Nothing p = false
-is_setting_of (Best penalty score) p = (length p == length score.columns) && is_equal (columns_order score.columns p)
+is_setting_of (Best penalty score) p = (length p == length score.columns) && is_eq (columns_order score.columns p)
 
 -- whether a floor is no better than the head's setting
 abbrev pub is_no_better : CertHead → List (List Cell) → ℕ → Bool
 is_no_better Nothing p floor = false
 is_no_better (Best penalty score) p floor =
-    nat_lt penalty floor || ((floor == penalty) && is_less (columns_order score.columns p))
+    nat_lt penalty floor || ((floor == penalty) && is_lt (columns_order score.columns p))
 
 -- the least rule of which a strict break is settled in a prefix
 abbrev pub least_break : Exercise → List (List Cell) → Option ℕ

@@ -1,7 +1,6 @@
 //! Whether a claim is true of a prefix, and the first one that is.
 
 ghost use Rattle.std.specs.Prelude.{◌≡◌, ◌+◌, ◌==◌, nat_lt, List};
-ghost use Rattle.std.specs.List.{find};
 ghost use Rattle.cert_law.specs.Certificates as certificates;
 ghost use Rattle.cert_law.specs.Writer as words;
 ghost use Rattle.cert_law.specs.Cases.{IsCase, matter_of};
@@ -9,35 +8,12 @@ ghost use Rattle.cert_law.specs.Prefixes.{IsJudged, IsSmall};
 ghost use Rattle.cert_law.specs.Truths.{IsFirstClaim, TellsNoBetter, TellsOpen, TellsTruth};
 ghost use Rattle.fux_grid.specs.declared.cell.Cell.{Cell as ACell};
 ghost use Rattle.fux_grid.specs.Exercises.{IsValid};
-ghost use Rattle.rule_law.specs.Voices.{has_rule};
 
 use crate::case::Case;
 use crate::judged::Judged;
 use cert_text::{CertHead, Claim};
 use fux_grid::Exercise;
 use fux_judge::every_rule;
-use rule_law::RuleSet;
-use std::cmp::Ordering;
-
-fn is_less(order: Ordering) -> bool
-    ensures { result ≡ words.is_less order }
-{
-    match order {
-        Ordering::Less => true,
-        Ordering::Equal => false,
-        Ordering::Greater => false,
-    }
-}
-
-fn is_equal(order: Ordering) -> bool
-    ensures { result ≡ words.is_equal order }
-{
-    match order {
-        Ordering::Less => false,
-        Ordering::Equal => true,
-        Ordering::Greater => false,
-    }
-}
 
 /// Whether the floor of a prefix with this tail is no better than the head's setting.
 pub fn is_no_better(case: &Case<'_>, judged: &Judged, tail: u64) -> bool
@@ -49,7 +25,7 @@ pub fn is_no_better(case: &Case<'_>, judged: &Judged, tail: u64) -> bool
         CertHead::Best { penalty, .. } => {
             let spent = judged.paid + judged.least;
             exceeds(*penalty, spent, tail)
-                || (equals(*penalty, spent, tail) && is_less(judged.order))
+                || (equals(*penalty, spent, tail) && judged.order.is_lt())
         }
     }
 }
@@ -76,7 +52,7 @@ pub fn is_setting(case: &Case<'_>, judged: &Judged) -> bool
     match case.head {
         CertHead::Nothing => false,
         CertHead::Best { score, .. } => {
-            judged.state.newest.len == score.len() && is_equal(judged.order)
+            judged.state.newest.len == score.len() && judged.order.is_eq()
         }
     }
 }
@@ -120,18 +96,6 @@ pub fn is_true(case: &Case<'_>, judged: &Judged, tail: Option<u64>, claim: Claim
     }
 }
 
-/// The first of these rules that is in a set.
-fn first_broken(rules: &[u8], broken: RuleSet) -> Option<u8>
-    ensures { result ≡ find (has_rule broken.bits) rules.now }
-{
-    for rule in rules {
-        if broken.has(*rule) {
-            return Some(*rule);
-        }
-    }
-    None
-}
-
 /// The first claim that is true of a prefix that has this tail.
 pub fn first_claim(case: &Case<'_>, judged: &Judged, tail: Option<u64>) -> Claim
     requires { IsSmall judged.now }
@@ -140,7 +104,7 @@ pub fn first_claim(case: &Case<'_>, judged: &Judged, tail: Option<u64>) -> Claim
     if is_setting(case, judged) {
         return Claim::TheScore;
     }
-    if let Some(rule) = first_broken(every_rule(), judged.broken) {
+    if let Some(rule) = judged.broken.first_of(every_rule()) {
         return Claim::Broken(rule);
     }
     match tail {

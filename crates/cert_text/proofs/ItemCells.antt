@@ -6,9 +6,9 @@ use Rattle.std.proofs.lemmas.Bool.{and_parts, cases_lt}
 use Rattle.std.proofs.lemmas.Bool.Decides.{nat_tests}
 use Rattle.fux_grid.specs.declared.cell.Cell.{Cell}
 use Rattle.fux_grid.specs.declared.cell.Cell.TheVariants.{Rest, Hold, Start}
-use Rattle.fux_grid.specs.Cells.{cell_follows}
+use Rattle.fux_grid.specs.Cells.{cell_follows, held}
 use Rattle.fux_text.proofs.Bars.{cells_of}
-use Rattle.fux_text.specs.Sing.{held, item_cells}
+use Rattle.fux_text.specs.Sing.{item_cells}
 use Rattle.fux_text.proofs.Following.{held-follows}
 use Rattle.fux_text.proofs.OnlySing.{item_cells-length}
 use Rattle.fux_text.proofs.OwnItems.{follows-held}

@@ -10,8 +10,8 @@ use Rattle.fux_grid.specs.declared.cell.Cell.{Cell}
 use Rattle.fux_grid.specs.declared.cell.Cell.TheVariants.{Rest}
 use Rattle.fux_grid.specs.declared.exercise.Exercise.{Exercise}
 use Rattle.fux_grid.specs.Exercises.{IsValid}
+use Rattle.fux_grid.specs.Cells.{held}
 use Rattle.fux_text.specs.Lines.{free_voices}
-use Rattle.fux_text.specs.Sing.{held}
 use Rattle.fux_text.proofs.OwnSetting.{free-cantus, free-other, free_of}
 use Rattle.cert_text.specs.HeadRows.{BehindItem, BehindName, IsCount, ItemName, Items, RestOfLine, SingLine, SingLines, behind_text, free_from, is_count, sing_bytes}
 use Rattle.cert_text.specs.Pieces.{Literal, OneByte, Reads, Stops, Then}

@@ -13,9 +13,9 @@ use Rattle.fux_grid.specs.declared.cell.Cell.{Cell}
 use Rattle.fux_grid.specs.declared.cell.Cell.TheVariants.{Rest, Hold, Start}
 use Rattle.fux_grid.specs.declared.exercise.Exercise.{Exercise}
 use Rattle.fux_grid.specs.Exercises.{IsValid}
+use Rattle.fux_grid.specs.Cells.{held}
 use Rattle.fux_text.specs.Items.{item_name}
 use Rattle.fux_text.specs.Lines.{free_voices}
-use Rattle.fux_text.specs.Sing.{held}
 use Rattle.fux_text.proofs.OwnSetting.{free-cantus, free-other, free_of}
 use Rattle.cert_text.specs.HeadRows.{BehindItem, Items, RestOfLine, SingLines, behind_text, can_stand, sing_bytes}
 

@@ -15,13 +15,13 @@ use Rattle.std.proofs.lemmas.Simd.{map-map}
 use Rattle.fux_grid.specs.declared.cell.Cell.{Cell}
 use Rattle.fux_grid.specs.declared.cell.Cell.TheVariants.{Rest, Hold, Start}
 use Rattle.fux_grid.specs.declared.exercise.Exercise.{Exercise}
-use Rattle.fux_grid.specs.Cells.{cell_follows, cell_in, is_hold}
+use Rattle.fux_grid.specs.Cells.{cell_follows, cell_in, is_hold, held}
 use Rattle.fux_grid.specs.Columns.{line}
 use Rattle.fux_grid.specs.Letters.{bar_columns}
 use Rattle.fux_text.proofs.Bars.{IsBar, cells_of, cells_of_bars}
 use Rattle.fux_text.specs.Items.{goes_on, item_name, item_word, items_of_cells, with_run}
 use Rattle.fux_text.specs.Lines.{bars_of, between_bar_lines, sing_text}
-use Rattle.fux_text.specs.Sing.{held, item_cells, latest}
+use Rattle.fux_text.specs.Sing.{item_cells, latest}
 use Rattle.fux_text.specs.Words.{spaced, text_line}
 use Rattle.fux_text.proofs.Following.{held-follows}
 use Rattle.fux_text.proofs.OwnBars.{follows-parts, latest-append}

@@ -8,11 +8,10 @@ use Rattle.fux_pitch.specs.Names.{name_of}
 use Rattle.fux_grid.specs.declared.cell.Cell.{Cell}
 use Rattle.fux_grid.specs.declared.cell.Cell.TheVariants.{Rest, Hold, Start}
 use Rattle.fux_grid.specs.declared.exercise.Exercise.{Exercise}
-use Rattle.fux_grid.specs.Cells.{cell_follows}
+use Rattle.fux_grid.specs.Cells.{cell_follows, held}
 use Rattle.text_lines.specs.Numbers.{is_digit}
 use Rattle.fux_text.specs.Items.{item_name}
 use Rattle.fux_text.specs.Lines.{free_among, free_voices}
-use Rattle.fux_text.specs.Sing.{held}
 use Rattle.cert_text.specs.declared.answers.Form.{Form}
 use Rattle.cert_text.specs.declared.answers.Form.TheVariants.{First, Second, Third}
 use Rattle.cert_text.specs.declared.scan.Scan.{Scan}

@@ -1,16 +1,15 @@
 //! Reading the text of a head, piece by piece. Each function reads what stands at the front of the
 //! bytes and gives the bytes behind it, or says how many bytes are left where no such text goes on.
 
-ghost use Rattle.std.specs.Prelude.{◌≡◌, ◌+◌, ◌*◌, ◌-◌, ◌<◌, ◌≤◌, ◌==◌, ◌∷◌, [], ℕ, IfErr, IfOk, IfSome, IsTrue, List, None, Some, length, take, option_map, codes};
+ghost use Rattle.std.specs.Prelude.{◌≡◌, ◌+◌, ◌*◌, ◌-◌, ◌<◌, ◌≤◌, ◌==◌, ◌∷◌, [], ℕ, IfErr, IfOk, IfSome, IsTrue, None, Some, length, take, codes};
 ghost use Rattle.fux_pitch.specs.declared.pitch.Pitch.{Pitch};
 ghost use Rattle.fux_pitch.specs.Names.{name_of};
 ghost use Rattle.fux_grid.specs.declared.cell.Cell.{Cell};
 ghost use Rattle.fux_grid.specs.Exercises.{IsValid};
 ghost use Rattle.fux_text.specs.Items.{item_name};
-ghost use Rattle.fux_text.specs.Sing.{held};
 ghost use Rattle.cert_text.specs.declared.answers.Form.{Form as AForm};
 ghost use Rattle.cert_text.specs.HeadRows.{BestRow, FeedRow, FormDigit, FormRow, HeadRow, IsCount, IsUpTo, ItemName, Items, KindsRow, NothingRow, NumberLine, PitchName, SingLine, SingLines, behind_text, can_stand, closing_text, digit_after, form_byte, free_from, is_count, is_letter, is_sign, none_rest, said_of, sing_bytes};
-ghost use Rattle.cert_text.specs.Pieces.{Literal, OneByte, Reads, Stops, StopsAt};
+ghost use Rattle.cert_text.specs.Pieces.{Literal, OneByte, Reads, Stops};
 
 use crate::answers::Form;
 use fux_grid::{Cell, Exercise};
@@ -273,16 +272,6 @@ fn behind_item(bars: u8, i: u8) -> &'static [u8]
     }
 }
 
-/// What goes on with a cell.
-fn held(cell: Cell) -> Cell
-    ensures { result ≡ held cell }
-{
-    match cell.pitch() {
-        Some(pitch) => Cell::Hold(pitch),
-        None => Cell::Rest,
-    }
-}
-
 /// Reads items behind so many columns and this cell, through the end of a line of so many bars;
 /// there are at most so many.
 fn items(bars: u8, most: u8, i: u8, before: Cell, bytes: &[u8]) -> Result<&[u8], usize>
@@ -300,7 +289,7 @@ fn items(bars: u8, most: u8, i: u8, before: Cell, bytes: &[u8]) -> Result<&[u8],
     if next == 8 * bars {
         return Ok(rest);
     }
-    items(bars, most - 1, next, held(cell), rest)
+    items(bars, most - 1, next, cell.held(), rest)
 }
 
 /// The beginning of a voice's `sing` line.

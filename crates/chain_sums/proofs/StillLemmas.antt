@@ -10,13 +10,13 @@ use Rattle.std.proofs.lemmas.List.Elements.{All-contains, Contains-get_or}
 use Rattle.fux_pitch.proofs.PitchLemmas.{equal_from_test}
 use Rattle.fux_grid.specs.declared.cell.Cell.{Cell}
 use Rattle.fux_grid.specs.declared.cell.Cell.TheVariants.{Rest, Hold, Start}
-use Rattle.fux_grid.specs.Cells.{cell_in, cell_follows}
+use Rattle.fux_grid.specs.Cells.{cell_in, cell_follows, held, is_hold}
 use Rattle.fux_grid.specs.Columns.{ColumnFollows}
 use Rattle.fux_grid.proofs.PitchTests.{same_pitch-from_equal}
 use Rattle.chain_sums.specs.Chains.{AreFull, Chains, IsLeast, IsLeastOf, HasSum, plus}
 use Rattle.chain_sums.specs.Packed.{packed}
 use Rattle.chain_sums.specs.Rows.{IsRow, IsSumAt, IsSumOf, IsSumWithin}
-use Rattle.chain_sums.specs.Still.{GoesOnFreely, IsStill, all_hold, held, is_hold, packed_held}
+use Rattle.chain_sums.specs.Still.{GoesOnFreely, IsStill, all_hold, packed_held}
 use Rattle.chain_sums.proofs.LeastLemmas.{row_is_enough, sum_of_both}
 use Rattle.chain_sums.proofs.SumLemmas.{least_is_one}
 

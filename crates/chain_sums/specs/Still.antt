@@ -1,25 +1,12 @@
 -- Columns that hold all they sound, and menus of no others.
-use Rattle.std.specs.Prelude.{◌≡◌, ℕ, ◌+◌, ◌*◌, ◌^◌, ◌<◌, Bool, true, false, List, [], Some, length, slice_index_or}
+use Rattle.std.specs.Prelude.{◌≡◌, ℕ, ◌+◌, ◌*◌, ◌^◌, ◌<◌, Bool, true, List, [], Some, length, slice_index_or}
 use Rattle.std.specs.List.{list_all}
 use Rattle.fux_grid.specs.declared.cell.Cell.{Cell}
-use Rattle.fux_grid.specs.declared.cell.Cell.TheVariants.{Rest, Hold, Start}
-use Rattle.fux_grid.specs.Cells.{cell_in}
+use Rattle.fux_grid.specs.Cells.{cell_in, held, is_hold}
 use Rattle.chain_sums.specs.Chains.{Chains}
 use Rattle.chain_sums.specs.Packed.{packed_cell}
 
--- the cell that goes on with what a cell sounds
-abbrev pub held : Cell → Cell
-held Rest = Rest
-held (Hold p) = Hold p
-held (Start p) = Hold p
-
--- a cell holds a note
-abbrev pub is_hold : Cell → Bool
-is_hold Rest = false
-is_hold (Hold p) = true
-is_hold (Start p) = false
-
--- each cell of a column does
+-- each cell of a column holds a note
 abbrev pub all_hold : List Cell → Bool
 all_hold = list_all is_hold
 

@@ -5,10 +5,10 @@ ghost use Rattle.std.specs.Bool.{OnTrue};
 ghost use Rattle.fux_grid.specs.declared.cell.Cell.{Cell as ACell};
 ghost use Rattle.fux_grid.specs.Grid.{items_of};
 ghost use Rattle.fux_grid.specs.Menus.{IsAscending};
+ghost use Rattle.fux_grid.specs.Cells.{held};
 ghost use Rattle.chain_sums.specs.Chains.{AreFull};
 ghost use Rattle.chain_sums.specs.Menus.{FindsColumn, HaveSameColumns, IsMenuOf, IsPacked, columns_of};
 ghost use Rattle.chain_sums.specs.Packed as specs;
-ghost use Rattle.chain_sums.specs.Still.{held};
 
 use crate::packed::{packed, packed_held};
 use fux_grid::Column;

@@ -1,7 +1,7 @@
 //! Columns as numbers that go in reading order.
 
 ghost use Rattle.std.specs.Prelude.{◌≡◌, ◌<◌};
-ghost use Rattle.fux_grid.specs.Cells.{cell_in};
+ghost use Rattle.fux_grid.specs.Cells.{cell_in, held};
 ghost use Rattle.chain_sums.specs.Packed as specs;
 ghost use Rattle.chain_sums.specs.Still as still;
 
@@ -48,23 +48,12 @@ pub(crate) fn packed(column: &[Cell]) -> u64
     lower * (VOICE * VOICE) + upper
 }
 
-/// The cell that goes on with what a cell sounds.
-fn held(cell: Cell) -> Cell
-    ensures { result ≡ still.held cell }
-{
-    match cell {
-        Cell::Rest => Cell::Rest,
-        Cell::Hold(pitch) => Cell::Hold(pitch),
-        Cell::Start(pitch) => Cell::Hold(pitch),
-    }
-}
-
 /// The number of the cell that goes on with what a voice sounds in a column.
 fn packed_voice_held(column: &[Cell], v: usize) -> u64
-    ensures value { result ≡ specs.packed_cell (still.held (cell_in column.now v)) }
+    ensures value { result ≡ specs.packed_cell (held (cell_in column.now v)) }
     ensures bound { result < 32768 }
 {
-    u64::from(packed_cell(held(cell_of(column, v))))
+    u64::from(packed_cell(cell_of(column, v).held()))
 }
 
 /// The number of the column that goes on with all that a column sounds.

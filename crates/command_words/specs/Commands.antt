@@ -7,6 +7,7 @@ use Rattle.clap.specs.Words.{App, Kinds, Row, Text, fault_of, first_of, matches_
 use Rattle.cert_text.specs.declared.answers.Form.{Form}
 use Rattle.cert_text.specs.declared.answers.Form.TheVariants.{First, Second, Third}
 use Rattle.fux_grid.specs.declared.exercise.Head.{Head}
+use Rattle.fux_grid.specs.Namings.{AreNamed}
 use Rattle.fux_pitch.specs.Pitch.{key_of}
 use Rattle.fux_text.specs.Names.{mode_named, pitch_named}
 use Rattle.smf_answers.specs.declared.manner.Manner.{Manner}
@@ -81,11 +82,6 @@ task_of (WholeClass list lesson kind) = whole_class list.now (sheet_named lesson
 task_of (WholeFiles names lesson kind) = whole_files (texts names.now) (sheet_named lesson) kind
 task_of (Certify name sheet budget form) = certify name.now (sheet_named sheet) budget form
 task_of (CertifyCantus wanted sheet budget) = certify_cantus wanted (sheet_named sheet) budget
-
--- each of four voices has a species from 2 to 5, or none that is named
-pub record AreNamed (named : List (Option ℕ)) : Type 0 where
-  pub four : length named ≡ 4
-  pub each : (v : ℕ) → IfSome (slice_index_or named v None) (λ species. (2 ≤ species) × (species ≤ 5))
 
 -- the species that a subject names, where it names some
 abbrev pub IsNamedSubject : Subject → Type 0

@@ -2,10 +2,11 @@
 
 ghost use Rattle.std.specs.Prelude.{◌≡◌, ◌≤◌, ◌<◌, IfSome, option_map};
 ghost use Rattle.clap.specs.Words.{first_of, found_of, rows_of};
+ghost use Rattle.fux_grid.specs.Namings.{AreNamed};
 ghost use Rattle.fux_text.specs.Names.{mode_named};
 ghost use Rattle.smf_score.specs.Heads.{IsHead};
 ghost use Rattle.text_lines.specs.Numbers.{number_within};
-ghost use Rattle.command_words.specs.Commands.{AreNamed, HasHead, HasMidiHead, IsNamedSubject, IsWanted, against_in, are_a_class, asks, before_in, before_nth, best_asked, budget_in, canon_asked, cantus_asked, cantus_of, certify_asked, certify_cantus_asked, check_asked, check_cantus_asked, class_asked, classing_of, compose_asked, composing, drill_asked, either_asked, either_by, explain_asked, files_asked, files_in, filing_of, form_in, from_smf_asked, goes_on, head_in, is_item, is_set, job_asked, join_smf_asked, kind_in, making_task, manner_in, mark_asked, mark_mixed_asked, marking_of, mixed_asked, mixed_by, mixing, named_in, new_cantus_asked, number_at, page_of, paged_in, picture_asked, print_asked, said_of, search_in, subject_in, task_of, texts, wanted_in, weigh_asked, weighing_with, wrap_in};
+ghost use Rattle.command_words.specs.Commands.{HasHead, HasMidiHead, IsNamedSubject, IsWanted, against_in, are_a_class, asks, before_in, before_nth, best_asked, budget_in, canon_asked, cantus_asked, cantus_of, certify_asked, certify_cantus_asked, check_asked, check_cantus_asked, class_asked, classing_of, compose_asked, composing, drill_asked, either_asked, either_by, explain_asked, files_asked, files_in, filing_of, form_in, from_smf_asked, goes_on, head_in, is_item, is_set, job_asked, join_smf_asked, kind_in, making_task, manner_in, mark_asked, mark_mixed_asked, marking_of, mixed_asked, mixed_by, mixing, named_in, new_cantus_asked, number_at, page_of, paged_in, picture_asked, print_asked, said_of, search_in, subject_in, task_of, texts, wanted_in, weigh_asked, weighing_with, wrap_in};
 
 use crate::command::{Command, FileKind, Job, Making, MixedJob, Named, Search, Subject, Wanted};
 use crate::verbs::Verb;

@@ -25,6 +25,12 @@ is_hold Rest = false
 is_hold (Hold p) = true
 is_hold (Start p) = false
 
+-- the cell that goes on with what a cell sounds
+abbrev pub held : Cell → Cell
+held Rest = Rest
+held (Hold p) = Hold p
+held (Start p) = Hold p
+
 -- the cell of a voice in a column, a rest where the column has none
 abbrev pub cell_in : List Cell → ℕ → Cell
 cell_in col v = slice_index_or col v Rest

@@ -6,6 +6,7 @@ pub mod Givens
 pub mod Grid
 pub mod Letters
 pub mod Menus
+pub mod Namings
 pub mod Notes
 pub mod Order
 pub mod Orderly

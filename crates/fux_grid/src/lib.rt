@@ -23,6 +23,6 @@ pub use letters::{letters_from, shape};
 pub use menus::{MenuFault, VoiceCells, WIDEST, can_start, menu, voice_cells, width};
 pub use notes::{next_note, note_at, note_behind, onset_ahead, prev_note, sounding};
 pub use places::{bar_of, place_of, slot_of};
-pub use reading_order::order;
+pub use reading_order::{order, pitch_order};
 pub use score::{GridFault, Score, cell_of, cells_follow, follows};
 pub use shapes::{HOLD, REST, START, allows, shapes_of};

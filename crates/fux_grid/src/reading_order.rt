@@ -7,8 +7,8 @@ use crate::cell::{Cell, Column};
 use fux_pitch::{Pitch, semitone};
 use std::cmp::Ordering;
 
-/// Pitches go by key, then by degree.
-fn pitch_order(p: Pitch, q: Pitch) -> Ordering
+/// The order of two pitches: they go by key, then by degree.
+pub fn pitch_order(p: Pitch, q: Pitch) -> Ordering
     ensures { result ≡ pitch_order p q }
 {
     semitone(p)

@@ -1,10 +1,19 @@
--- The six modes: their finals, leading notes and gamuts.
-use Rattle.std.specs.Prelude.{ℕ, ◌+◌, ◌%◌, ℤ, pos, negsuc, Bool, false, ◌==◌, ◌&&◌, ◌||◌, nat_le}
+-- The six modes: their names, finals, leading notes and gamuts.
+use Rattle.std.specs.Prelude.{ℕ, ◌+◌, ◌%◌, ℤ, pos, negsuc, Bool, false, List, codes, ◌==◌, ◌&&◌, ◌||◌, nat_le}
 use Rattle.std.specs.Ordering.{int_eq}
 use Rattle.fux_pitch.specs.Pitch.{degree_of, alter_of}
 use Rattle.fux_pitch.specs.declared.pitch.Pitch.{Pitch}
 use Rattle.fux_pitch.specs.declared.mode.Mode.{Mode}
 use Rattle.fux_pitch.specs.declared.mode.Mode.TheVariants.{Dorian, Phrygian, Lydian, Mixolydian, Aeolian, Ionian}
+
+-- the name
+abbrev pub mode_name : Mode → List ℕ
+mode_name Dorian = codes "dorian"
+mode_name Phrygian = codes "phrygian"
+mode_name Lydian = codes "lydian"
+mode_name Mixolydian = codes "mixolydian"
+mode_name Aeolian = codes "aeolian"
+mode_name Ionian = codes "ionian"
 
 -- the letter of the final: 0 is C, 6 is B
 abbrev pub final_of : Mode → ℕ

@@ -17,7 +17,7 @@ pub use interval::{Interval, interval_of, is_consonant, is_imperfect, is_perfect
 pub use key::semitone;
 pub use list::{Label, List};
 pub use memory::Memory;
-pub use mode::{Mode, final_letter, in_gamut, leading};
+pub use mode::{Mode, final_letter, in_gamut, leading, mode_name};
 pub use names::{name, parse_pitch};
 pub use pitch::Pitch;
 pub use spelling::spell;

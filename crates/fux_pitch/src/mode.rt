@@ -1,7 +1,8 @@
-//! The six modes of Fux's Gradus ad Parnassum (1725), with their finals, leading notes and gamuts.
+//! The six modes of Fux's Gradus ad Parnassum (1725), with their names, finals, leading
+//! notes and gamuts.
 
 ghost use Rattle.std.specs.Prelude.{◌≡◌, ◌≤◌};
-ghost use Rattle.fux_pitch.specs.Modes.{final_of, leading_of, raises, is_in_gamut};
+ghost use Rattle.fux_pitch.specs.Modes.{mode_name, final_of, leading_of, raises, is_in_gamut};
 
 use crate::pitch::Pitch;
 
@@ -14,6 +15,20 @@ pub enum Mode {
     Mixolydian,
     Aeolian,
     Ionian,
+}
+
+/// The name of the mode, in small letters, as note texts and MusicXML write it.
+pub fn mode_name(mode: Mode) -> &'static str
+    ensures { result.now ≡ mode_name mode }
+{
+    match mode {
+        Mode::Dorian => "dorian",
+        Mode::Phrygian => "phrygian",
+        Mode::Lydian => "lydian",
+        Mode::Mixolydian => "mixolydian",
+        Mode::Aeolian => "aeolian",
+        Mode::Ionian => "ionian",
+    }
 }
 
 /// The letter of the mode's final: 0 for C to 6 for B.

@@ -8,7 +8,7 @@ use Rattle.fux_pitch.specs.declared.pitch.Pitch.{Pitch}
 use Rattle.fux_grid.specs.declared.cell.Cell.{Cell}
 use Rattle.fux_grid.specs.declared.cell.Cell.TheVariants.{Rest, Hold, Start}
 use Rattle.fux_grid.specs.declared.exercise.Exercise.{Exercise}
-use Rattle.fux_grid.specs.Cells.{cell_follows, pitch_of}
+use Rattle.fux_grid.specs.Cells.{cell_follows, pitch_of, held}
 use Rattle.fux_grid.proofs.PitchTests.{same_pitch-from_equal}
 use Rattle.fux_text.specs.declared.fault.TextKind.{TextKind}
 use Rattle.fux_text.specs.declared.fault.TextKind.TheVariants as kinds
@@ -21,7 +21,7 @@ use Rattle.text_lines.specs.Tables.{IsLine, IsTable}
 use Rattle.text_lines.proofs.Binds.{bind_ok, ok_or_ok}
 use Rattle.fux_text.specs.declared.item_words.ItemName.{ItemName}
 use Rattle.fux_text.specs.declared.item_words.ItemName.TheVariants as names
-use Rattle.fux_text.specs.Sing.{Fit, bar_line_said, cantus_or_sung, first_cell, held, is_full, item_cells, item_named, item_parts, item_said, latest, sing_row, sung_end, sung_run, sung_word, voice_table, voices_table}
+use Rattle.fux_text.specs.Sing.{Fit, bar_line_said, cantus_or_sung, first_cell, is_full, item_cells, item_named, item_parts, item_said, latest, sing_row, sung_end, sung_run, sung_word, voice_table, voices_table}
 use Rattle.voice_lines.specs.Lines.{LineFollows}
 use Rattle.voice_lines.proofs.Scores.{rest_follows, start_follows}
 

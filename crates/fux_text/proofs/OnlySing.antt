@@ -6,6 +6,7 @@ use Rattle.std.specs.Fmt.{decimal}
 use Rattle.std.proofs.lemmas.Bool.{eqb-true, not-false}
 use Rattle.std.proofs.lemmas.List.{length-replicate}
 use Rattle.fux_grid.specs.declared.cell.Cell.{Cell}
+use Rattle.fux_grid.specs.Cells.{held}
 use Rattle.fux_text.specs.declared.fault.TextKind.{TextKind}
 use Rattle.fux_text.specs.declared.fault.TextKind.TheVariants as kinds
 use Rattle.text_lines.specs.Lines.{TextLines}
@@ -15,7 +16,7 @@ use Rattle.text_lines.specs.Tables.{IsLine}
 use Rattle.text_lines.proofs.Binds.{bind_ok}
 use Rattle.text_lines.proofs.RowLemmas.{run-gives}
 use Rattle.fux_text.specs.Grammar.{IsSung}
-use Rattle.fux_text.specs.Sing.{held, is_full, item_cells, misfit, sing_row, sung_end, sung_place, sung_run, sung_voice}
+use Rattle.fux_text.specs.Sing.{is_full, item_cells, misfit, sing_row, sung_end, sung_place, sung_run, sung_voice}
 use Rattle.fux_text.specs.Words.{texts}
 use Rattle.fux_text.proofs.Bounds.{within-bounds}
 use Rattle.fux_text.proofs.Following.{value_is}

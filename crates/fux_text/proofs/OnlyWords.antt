@@ -7,6 +7,7 @@ use Rattle.std.specs.List.{range_with_len}
 use Rattle.std.specs.Option.{option_and_then}
 use Rattle.std.proofs.lemmas.List.{append-nil}
 use Rattle.std.proofs.lemmas.Fmt.{decimal_digit, decimal_step}
+use Rattle.fux_pitch.specs.Modes.{mode_name}
 use Rattle.fux_pitch.specs.declared.mode.Mode.{Mode}
 use Rattle.fux_pitch.specs.declared.pitch.Pitch.{Pitch}
 use Rattle.fux_pitch.specs.Names.{name_of}
@@ -20,7 +21,7 @@ use Rattle.text_lines.specs.Rows.{IsRow, Place, Row, Stands, named_place, number
 use Rattle.text_lines.specs.Tables.{AreMany, IsLine, Many}
 use Rattle.text_lines.specs.Words.{LineWords, PlacedWord, first_of, first_word}
 use Rattle.text_lines.proofs.Binds.{ok_or_ok}
-use Rattle.fux_text.specs.Lines.{mode_name, voices_word}
+use Rattle.fux_text.specs.Lines.{voices_word}
 use Rattle.fux_text.specs.Names.{mode_named, modes, pitch_named, pitches}
 use Rattle.fux_text.specs.Relaxing.{is_set, rule_named, voices_named}
 use Rattle.fux_text.specs.Words.{texts}

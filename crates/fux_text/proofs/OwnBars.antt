@@ -12,7 +12,7 @@ use Rattle.std.proofs.lemmas.List.FromFn.{length-map-range_with_len}
 use Rattle.std.proofs.Math.Seq.{drop-nil, take-add}
 use Rattle.fux_grid.specs.declared.cell.Cell.{Cell}
 use Rattle.fux_grid.specs.declared.cell.Cell.TheVariants.{Rest}
-use Rattle.fux_grid.specs.Cells.{cell_in}
+use Rattle.fux_grid.specs.Cells.{cell_in, held}
 use Rattle.fux_grid.specs.Columns.{line}
 use Rattle.fux_grid.specs.Letters.{bar_columns}
 use Rattle.fux_text.specs.declared.fault.TextKind.TheVariants as kinds
@@ -24,7 +24,7 @@ use Rattle.text_lines.proofs.RowLemmas.{run-gives}
 use Rattle.fux_text.specs.Grammar.{IsSung}
 use Rattle.fux_text.specs.Items.{item_word, items_of_cells}
 use Rattle.fux_text.specs.Lines.{bar_words, between_bar_lines, sing_words}
-use Rattle.fux_text.specs.Sing.{held, item_cells, bar_line_said, latest, sing_row, sung_end, sung_run, sung_word}
+use Rattle.fux_text.specs.Sing.{item_cells, bar_line_said, latest, sing_row, sung_end, sung_run, sung_word}
 use Rattle.fux_text.proofs.NumberWords.{within-own}
 use Rattle.fux_text.proofs.Layouts.{at_words, left, places_of, set_out-texts, with_line}
 use Rattle.fux_text.proofs.Bars.{IsBar, cells_of, cells_of_bars}

@@ -4,6 +4,7 @@ use Rattle.std.specs.Prelude.{◌==◌, codes, if◌then◌else◌}
 use Rattle.std.specs.Fmt.{decimal}
 use Rattle.std.specs.Option.{option_and_then}
 use Rattle.std.proofs.lemmas.List.{append-nil}
+use Rattle.fux_pitch.specs.Modes.{mode_name}
 use Rattle.fux_pitch.specs.declared.mode.Mode.{Mode}
 use Rattle.fux_pitch.specs.declared.pitch.Pitch.{Pitch}
 use Rattle.fux_pitch.specs.Names.{name_of}
@@ -16,7 +17,7 @@ use Rattle.text_lines.specs.Rows.{row_in}
 use Rattle.text_lines.specs.Tables.{line_in, table_in}
 use Rattle.text_lines.specs.Words.{LineWords, PlacedWord}
 use Rattle.fux_text.specs.Head.{cantus_row, head_table, mode_row, number_row, other_voice, pitches_row, species_row, unless, version_table}
-use Rattle.fux_text.specs.Lines.{cantus_words, head_lines, mode_name, version_words}
+use Rattle.fux_text.specs.Lines.{cantus_words, head_lines, version_words}
 use Rattle.fux_text.specs.Limits.{most_species, most_voices, newest_version}
 use Rattle.fux_text.proofs.Named.{same_from}
 use Rattle.fux_text.proofs.NumberWords.{within-own}

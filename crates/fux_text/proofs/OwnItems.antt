@@ -12,7 +12,7 @@ use Rattle.fux_pitch.specs.declared.pitch.Pitch.{Pitch}
 use Rattle.fux_pitch.specs.Names.{name_of}
 use Rattle.fux_grid.specs.declared.cell.Cell.{Cell}
 use Rattle.fux_grid.specs.declared.cell.Cell.TheVariants.{Rest, Hold, Start}
-use Rattle.fux_grid.specs.Cells.{is_hold, cell_follows, pitch_of}
+use Rattle.fux_grid.specs.Cells.{is_hold, cell_follows, pitch_of, held}
 use Rattle.text_lines.specs.Numbers.{number_of}
 use Rattle.text_lines.specs.Reading.{same_text}
 use Rattle.text_lines.specs.Rows.{IsRun}
@@ -20,7 +20,7 @@ use Rattle.fux_text.specs.declared.item_words.ItemName.{ItemName}
 use Rattle.fux_text.specs.declared.item_words.ItemName.TheVariants as names
 use Rattle.fux_text.proofs.Bars.{IsBar, cells_of}
 use Rattle.fux_text.specs.Items.{goes_on, item_name, item_word, items_of_cells}
-use Rattle.fux_text.specs.Sing.{first_cell, held, is_colon, item_cells, item_named, item_parts, item_said, latest, sung_run, sung_word}
+use Rattle.fux_text.specs.Sing.{first_cell, is_colon, item_cells, item_named, item_parts, item_said, latest, sung_run, sung_word}
 use Rattle.fux_pitch.proofs.NameLemmas.{name_of-length, name_of-passes}
 use Rattle.fux_pitch.proofs.PitchLemmas.{equal_from_test}
 use Rattle.fux_text.proofs.ItemRuns.{AreRuns, run-items}

@@ -6,12 +6,13 @@ use Rattle.std.specs.List.{list_all, range_with_len}
 use Rattle.std.proofs.lemmas.List.FromFn.{get_or-range_with_len, length-range_with_len}
 use Rattle.std.proofs.lemmas.List.Sums.{AllPass-from_list_all}
 use Rattle.fux_grid.specs.declared.exercise.VoiceSet.{VoiceSet}
+use Rattle.fux_pitch.specs.Modes.{mode_name}
 use Rattle.fux_pitch.specs.declared.mode.Mode.{Mode}
 use Rattle.fux_pitch.specs.declared.mode.Mode.TheVariants.{Dorian, Phrygian, Lydian, Mixolydian, Aeolian, Ionian}
 use Rattle.fux_pitch.specs.declared.pitch.Pitch.{Pitch}
 use Rattle.fux_pitch.specs.Names.{name_of}
 use Rattle.fux_pitch.proofs.NameLemmas.{name_of-injective}
-use Rattle.fux_text.specs.Lines.{mode_name, voices_word}
+use Rattle.fux_text.specs.Lines.{voices_word}
 use Rattle.fux_text.specs.Names.{mode_named, pitch_named, pitches}
 use Rattle.fux_text.specs.Relaxing.{rule_named, voices_named}
 use Rattle.fux_text.proofs.Named.{all_pitches, named-own}

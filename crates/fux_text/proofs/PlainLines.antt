@@ -10,6 +10,7 @@ use Rattle.std.proofs.lemmas.List.{length-map, length-take}
 use Rattle.std.proofs.lemmas.List.Folds.{list_all-append, list_all-map}
 use Rattle.std.proofs.lemmas.List.FromFn.{get_or-range_with_len, length-range_with_len}
 use Rattle.std.proofs.lemmas.List.Sums.{AllPass-from_list_all, list_all-from_AllPass}
+use Rattle.fux_pitch.specs.Modes.{mode_name}
 use Rattle.fux_pitch.specs.declared.mode.Mode.{Mode}
 use Rattle.fux_pitch.specs.declared.mode.Mode.TheVariants.{Dorian, Phrygian, Lydian, Mixolydian, Aeolian, Ionian}
 use Rattle.fux_pitch.specs.declared.pitch.Pitch.{Pitch}
@@ -31,7 +32,7 @@ use Rattle.fux_grid.specs.Grid.{Grid}
 use Rattle.fux_grid.specs.Letters.{bar_columns}
 use Rattle.fux_text.specs.GivenItems.{given_goes_on, given_name, given_word}
 use Rattle.fux_text.specs.Items.{goes_on, item_name, item_word}
-use Rattle.fux_text.specs.Lines.{bar_words, bars_words, between_bar_lines, cantus_words, exercise_lines, given_words, head_lines, lines_before_given, mode_name, range_words, relax_words, sing_words, version_of, version_words, voices_word}
+use Rattle.fux_text.specs.Lines.{bar_words, bars_words, between_bar_lines, cantus_words, exercise_lines, given_words, head_lines, lines_before_given, range_words, relax_words, sing_words, version_of, version_words, voices_word}
 use Rattle.fux_text.proofs.Bounds.{few-bits}
 use Rattle.fux_text.proofs.GivenCells.{given-through}
 use Rattle.fux_text.proofs.ItemLemmas.{items-words}

@@ -2,8 +2,7 @@
 use Rattle.std.specs.Prelude.{ℕ, ◌-◌, ◌/◌, ◌%◌, ◌^◌, ◌==◌, List, [], ◌∷◌, ◌++◌, Bool, not, Option, Some, None, codes, filter, map, length}
 use Rattle.std.specs.List.{flat_map, join_with_byte, range_with_len}
 use Rattle.std.specs.Fmt.{decimal}
-use Rattle.fux_pitch.specs.declared.mode.Mode.{Mode}
-use Rattle.fux_pitch.specs.declared.mode.Mode.TheVariants.{Dorian, Phrygian, Lydian, Mixolydian, Aeolian, Ionian}
+use Rattle.fux_pitch.specs.Modes.{mode_name}
 use Rattle.fux_pitch.specs.Names.{name_of}
 use Rattle.fux_grid.specs.declared.cell.Cell.{Cell}
 use Rattle.fux_grid.specs.declared.exercise.Exercise.{Exercise}
@@ -17,15 +16,6 @@ use Rattle.fux_grid.specs.Letters.{bar_columns}
 use Rattle.fux_text.specs.GivenItems.{given_items, given_word}
 use Rattle.fux_text.specs.Items.{items_of_cells, item_word}
 use Rattle.fux_text.specs.Words.{spaced, text_line, text_of}
-
--- the name of a mode
-abbrev pub mode_name : Mode → List ℕ
-mode_name Dorian = codes "dorian"
-mode_name Phrygian = codes "phrygian"
-mode_name Lydian = codes "lydian"
-mode_name Mixolydian = codes "mixolydian"
-mode_name Aeolian = codes "aeolian"
-mode_name Ionian = codes "ionian"
 
 -- the words of a version
 abbrev pub version_words : ℕ → List (List ℕ)

@@ -1,12 +1,12 @@
 -- Which mode or pitch a word names.
 use Rattle.std.specs.Prelude.{ℕ, pos, negsuc, List, [], ◌∷◌, Option, find}
 use Rattle.std.specs.List.{filter_map, flat_map, range_with_len}
+use Rattle.fux_pitch.specs.Modes.{mode_name}
 use Rattle.fux_pitch.specs.declared.mode.Mode.{Mode}
 use Rattle.fux_pitch.specs.declared.mode.Mode.TheVariants.{Dorian, Phrygian, Lydian, Mixolydian, Aeolian, Ionian}
 use Rattle.fux_pitch.specs.declared.pitch.Pitch.{Pitch}
 use Rattle.fux_pitch.specs.Names.{name_of}
 use Rattle.fux_pitch.specs.Pitch.{pitch_at}
-use Rattle.fux_text.specs.Lines.{mode_name}
 use Rattle.text_lines.specs.Reading.{same_text}
 
 -- the one of these that has this name

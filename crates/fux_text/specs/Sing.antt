@@ -5,7 +5,7 @@ use Rattle.std.specs.Option.{ok_or}
 use Rattle.fux_grid.specs.declared.cell.Cell.{Cell}
 use Rattle.fux_grid.specs.declared.cell.Cell.TheVariants.{Rest, Hold, Start}
 use Rattle.fux_grid.specs.declared.exercise.Exercise.{Exercise}
-use Rattle.fux_grid.specs.Cells.{pitch_of}
+use Rattle.fux_grid.specs.Cells.{pitch_of, held}
 use Rattle.fux_grid.specs.Grid.{Grid}
 use Rattle.fux_text.specs.declared.fault.TextKind.{TextKind}
 use Rattle.fux_text.specs.declared.fault.TextKind.TheVariants as kinds
@@ -43,12 +43,6 @@ first_cell begins_bar before (names.Note p) = Some (Start p)
 abbrev pub latest : Cell → List Cell → Cell
 latest before [] = before
 latest before (c ∷ cs) = latest c cs
-
--- what goes on with a cell
-abbrev pub held : Cell → Cell
-held Rest = Rest
-held (Hold p) = Hold p
-held (Start p) = Hold p
 
 -- the cells of an item
 abbrev pub item_cells : Cell → ℕ → List Cell

@@ -4,29 +4,14 @@ ghost use Rattle.std.specs.Prelude.{◌≡◌, ◌<◌, ◌++◌, ◌∷◌, OnO
 ghost use Rattle.std.specs.Fmt.{decimal};
 ghost use Rattle.std.specs.List.{flat_map, join_with_byte, range_with_len};
 ghost use Rattle.fux_pitch.specs.Names.{name_of};
-ghost use Rattle.fux_grid.specs.Exercises.{IsValid};
-ghost use Rattle.fux_text.specs.Lines.{bars_words, cantus_words, exercise_text, has_voice, head_lines, mode_name, range_words, relax_words, text_before_given, version_of, version_words, voices_word};
+ghost use Rattle.fux_text.specs.Lines.{cantus_words, exercise_text, has_voice, head_lines, range_words, relax_words, text_before_given, version_of, version_words, voices_word};
 ghost use Rattle.fux_text.specs.Words.{text_line, text_of, spaced};
 
 use crate::given_lines::{put_given_lines, version_of};
 use arrayvec::ArrayVec;
 use fux_grid::{Exercise, RangeLine, Relax, VoiceSet};
-use fux_pitch::{Memory, Mode, Pitch};
+use fux_pitch::{Memory, Pitch, mode_name};
 use std::fmt::Write;
-
-/// The name of a mode.
-fn mode_name(mode: Mode) -> &'static str
-    ensures { result.now ≡ mode_name mode }
-{
-    match mode {
-        Mode::Dorian => "dorian",
-        Mode::Phrygian => "phrygian",
-        Mode::Lydian => "lydian",
-        Mode::Mixolydian => "mixolydian",
-        Mode::Aeolian => "aeolian",
-        Mode::Ionian => "ionian",
-    }
-}
 
 /// Appends the lines before the cantus.
 fn put_head(out: &mut String, ex: &Exercise) -> Result<(), Memory>
@@ -47,7 +32,7 @@ fn put_head(out: &mut String, ex: &Exercise) -> Result<(), Memory>
 }
 
 /// Appends the names of pitches, with a space before each.
-fn put_pitches(out: &mut String, pitches: &[Pitch]) -> Result<(), Memory>
+pub fn put_pitches(out: &mut String, pitches: &[Pitch]) -> Result<(), Memory>
     ensures { OnOk result (string_bytes out.new ≡ string_bytes out.old
         ++ spaced (map name_of pitches.now)) }
 {

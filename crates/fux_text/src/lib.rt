@@ -19,6 +19,7 @@ mod setting;
 mod sing;
 mod sing_lines;
 
+pub use exercise_lines::put_pitches;
 pub use fault::{TextFault, TextKind};
 pub use given_lines::given_in;
 pub use head::{mode_in, number_in, pitch_in, pitches_in, species_in};

@@ -6,7 +6,7 @@ ghost use Rattle.fux_pitch.specs.declared.mode.Mode.{Mode};
 ghost use Rattle.fux_pitch.specs.declared.pitch.Pitch.{Pitch};
 ghost use Rattle.fux_pitch.specs.Names.{name_of};
 ghost use Rattle.text_lines.specs.Numbers.{number_of};
-ghost use Rattle.fux_text.specs.Lines.{mode_name};
+ghost use Rattle.fux_pitch.specs.Modes.{mode_name};
 ghost use Rattle.fux_text.specs.Names.{mode_named, pitch_named};
 ghost use Rattle.fux_text.specs.ReadBack.{FaultsAreRead, NoteTextReadsBack, NoteTextsAreOfOne, NoteTextsAreRead, NoteTextsHaveNoFault, NoteTextsHaveOneFault, NoteTextsOrFaults, SetsReadBack, SingFaultsAreRead, SingLinesAreRead, SingLinesReadBack};
 ghost use Rattle.fux_text.specs.Relaxing.{rule_named};

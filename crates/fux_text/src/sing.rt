@@ -1,7 +1,7 @@
 //! The `sing` lines.
 
 ghost use Rattle.std.specs.Prelude.{◌≡◌, ◌≤◌, ◌<◌, ◌+◌, ◌*◌, ◌==◌, ◌++◌, [], IfOk, IfSome, OnOk, List, codes, length, option_map};
-ghost use Rattle.std.specs.List.{after_first, before_first, position, range_with_len};
+ghost use Rattle.std.specs.List.{position};
 ghost use Rattle.fux_grid.specs.declared.cell.Cell.TheVariants.{Rest};
 ghost use Rattle.fux_text.specs.declared.fault.TextKind.TheVariants.{Head, Sing};
 ghost use Rattle.text_lines.specs.Faults.{Gives};
@@ -10,7 +10,7 @@ ghost use Rattle.text_lines.specs.Rows.{Row, row_in, told_at};
 ghost use Rattle.text_lines.specs.Tables.{line_in};
 ghost use Rattle.text_lines.specs.Words.{word_of, words_of};
 ghost use Rattle.fux_text.specs.Fitting.{asks};
-ghost use Rattle.fux_text.specs.Sing.{bar_line_said, ended, first_cell, held, is_colon, is_full, item_cells, item_named, item_parts, item_said, latest, sing_row, sung_end, sung_run, sung_word};
+ghost use Rattle.fux_text.specs.Sing.{bar_line_said, ended, first_cell, is_colon, is_full, item_cells, item_named, item_parts, item_said, latest, sing_row, sung_end, sung_run, sung_word};
 
 use crate::fault::{TextFault, TextKind};
 use crate::fitting::{Asked, asks};
@@ -105,16 +105,6 @@ fn item_said(cells: &[Cell], bar: u8, text: &[u8]) -> Result<(Cell, u8), TextKin
     }
 }
 
-/// What goes on with a cell.
-fn held(cell: Cell) -> Cell
-    ensures { result ≡ held cell }
-{
-    match cell.pitch() {
-        Some(pitch) => Cell::Hold(pitch),
-        None => Cell::Rest,
-    }
-}
-
 /// Appends the cells of an item.
 pub fn push_item(cells: &mut Vec<Cell>, first: Cell, count: u8) -> Result<(), AllocError>
     requires { 1 ≤ count }
@@ -122,7 +112,7 @@ pub fn push_item(cells: &mut Vec<Cell>, first: Cell, count: u8) -> Result<(), Al
 {
     cells.push(first)?;
     for _ in 1..count {
-        cells.push(held(first))?;
+        cells.push(first.held())?;
     }
     Ok(())
 }

@@ -3,7 +3,7 @@ use Rattle.std.specs.Prelude.{ℕ, ◌+◌, ◌/◌, Bool, true, false, not, Lis
 use Rattle.std.specs.Fmt.{decimal}
 use Rattle.std.specs.List.{flat_map, range_with_len}
 use Rattle.fux_pitch.specs.declared.mode.Mode.{Mode}
-use Rattle.fux_pitch.specs.declared.mode.Mode.TheVariants.{Dorian, Phrygian, Lydian, Mixolydian, Aeolian, Ionian}
+use Rattle.fux_pitch.specs.Modes.{mode_name}
 use Rattle.fux_pitch.specs.declared.pitch.Pitch.{Pitch}
 use Rattle.fux_pitch.specs.Names.{name_of}
 use Rattle.fux_grid.specs.declared.exercise.Exercise.{Exercise}
@@ -17,15 +17,6 @@ use Rattle.fux_grid.specs.Exercises.{species_in}
 use Rattle.rule_law.specs.Voices.{is_free}
 use Rattle.score_marker.specs.Marks.{voices_in}
 use Rattle.mark_evidence.specs.Words.{half_beat, part_name}
-
--- the name of a mode
-abbrev pub mode_name : Mode → List ℕ
-mode_name Dorian = codes "dorian"
-mode_name Phrygian = codes "phrygian"
-mode_name Lydian = codes "lydian"
-mode_name Mixolydian = codes "mixolydian"
-mode_name Aeolian = codes "aeolian"
-mode_name Ionian = codes "ionian"
 
 -- the mode
 unfoldable pub mode_told : Mode → List ℕ

@@ -1,36 +1,14 @@
 //! The cantus firmus alone, as a score.
 
-ghost use Rattle.std.specs.Prelude.{◌≡◌, ◌++◌, ◌∷◌, IfOk, OnOk, map};
-ghost use Rattle.std.specs.List.{range_with_len};
+ghost use Rattle.std.specs.Prelude.{◌≡◌, IfOk};
 ghost use Rattle.fux_grid.specs.Exercises.{IsValid};
-ghost use Rattle.voice_lines.specs.Lines.{cantus_cells, note_cells};
 ghost use Rattle.mark_evidence.specs.Alone as words;
 ghost use Rattle.mark_evidence.specs.Alone.{lone_line, lone_lines};
 
 use fux_grid::{Cell, Exercise, Score};
-use fux_pitch::{List, Memory, Pitch};
+use fux_pitch::{List, Memory};
 use std::alloc::Global;
-use voice_lines::score_of;
-
-/// Appends the cells of a note of a whole bar.
-fn put_note(cells: &mut Vec<Cell>, pitch: Pitch) -> Result<(), Memory>
-    ensures { OnOk result (cells.new.items ≡ cells.old.items ++ note_cells pitch 8) }
-{
-    let held = Cell::Hold(pitch);
-    cells.extend_from_slice(&[Cell::Start(pitch), held, held, held, held, held, held, held])?;
-    Ok(())
-}
-
-/// The cells of a cantus.
-fn cantus_cells(alloc: Global, cantus: &[Pitch]) -> Result<Vec<Cell>, Memory>
-    ensures { IfOk result (λ cells. cells.items ≡ cantus_cells cantus.now) }
-{
-    let mut cells = Vec::new(alloc);
-    for pitch in cantus {
-        put_note(&mut cells, *pitch)?;
-    }
-    Ok(cells)
-}
+use voice_lines::{cantus_cells, score_of};
 
 /// The cells of a voice: those of the cantus, or none.
 fn lone_line(alloc: Global, ex: &Exercise, v: u8) -> Result<List<Cell>, Memory>

@@ -1,6 +1,6 @@
 //! The sentences that tell what an exercise asks.
 
-ghost use Rattle.std.specs.Prelude.{◌≡◌, ◌<◌, ◌≤◌, ◌++◌, ◌∷◌, [], IfOk, OnOk, filter, string_bytes};
+ghost use Rattle.std.specs.Prelude.{◌≡◌, ◌<◌, ◌++◌, ◌∷◌, [], IfOk, OnOk, filter, string_bytes};
 ghost use Rattle.std.specs.List.{flat_map};
 ghost use Rattle.rule_law.specs.Voices as voices_words;
 ghost use Rattle.mark_evidence.specs.Asked as words;
@@ -10,24 +10,10 @@ use crate::given::put_given;
 use crate::relaxed::put_relaxed;
 use crate::words::part_name;
 use fux_grid::{Exercise, RangeLine, species_of};
-use fux_pitch::{Memory, Mode, Pitch};
+use fux_pitch::{Memory, Mode, Pitch, mode_name};
 use rule_law::is_free;
 use std::alloc::Global;
 use std::fmt::Write;
-
-/// The name of a mode.
-fn mode_name(mode: Mode) -> &'static str
-    ensures { result.now ≡ words.mode_name mode }
-{
-    match mode {
-        Mode::Dorian => "dorian",
-        Mode::Phrygian => "phrygian",
-        Mode::Lydian => "lydian",
-        Mode::Mixolydian => "mixolydian",
-        Mode::Aeolian => "aeolian",
-        Mode::Ionian => "ionian",
-    }
-}
 
 /// Appends the mode.
 #[tactic(auto, unfolding(crate::specs::Asked::mode_told))]

@@ -1,5 +1,5 @@
 -- The weights of the tolls.
-use Rattle.std.specs.Prelude.{ℕ, ◌-◌, List, [], ◌∷◌, slice_index}
+use Rattle.std.specs.Prelude.{ℕ, ◌-◌, Bool, List, [], ◌∷◌, slice_index, if◌then◌else◌}
 use Rattle.penalty_sheet.specs.declared.sheet.Sheet.{Sheet}
 
 -- the tolls are numbered from 1 to this number
@@ -9,6 +9,10 @@ greatest_toll = 21
 -- the weight of a toll
 abbrev pub weight_of : Sheet → ℕ → ℕ
 weight_of sheet toll = slice_index sheet.weights (toll - 1)
+
+-- what it costs where it stands, else nothing
+abbrev pub charge : Sheet → ℕ → Bool → ℕ
+charge sheet toll stands = if stands then weight_of sheet toll else 0
 
 -- the weights of Q1 to Q21 where none is given
 abbrev pub default_weights : List ℕ

@@ -162,7 +162,7 @@ fn kept(weight: i64) -> u16
 }
 
 /// The whole number at a key, if there is one.
-fn number_at(table: &Table, key: &str) -> Option<i64>
+pub fn number_at(table: &Table, key: &str) -> Option<i64>
     ensures { result ≡ option_and_then as_integer (get_member key.now (table_view table.now)) }
 {
     match table.get(key) {

@@ -8,8 +8,8 @@ mod reading;
 mod share;
 mod sheet;
 
-pub use entries::label;
+pub use entries::{label, number_at};
 pub use fault::SheetFault;
 pub use price::{Price, price_at};
 pub use reading::{document, read_sheet, tables_sheet};
-pub use sheet::{GREATEST_TOLL, Sheet, default_sheet, weight};
+pub use sheet::{GREATEST_TOLL, Sheet, default_sheet, toll_if, weight};

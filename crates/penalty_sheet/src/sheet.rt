@@ -3,7 +3,7 @@
 ghost use Rattle.std.specs.Prelude.{◌≡◌, ◌≤◌};
 ghost use Rattle.toml.specs.Data.{no_members};
 ghost use Rattle.penalty_sheet.specs.Sheets.{sheet_in};
-ghost use Rattle.penalty_sheet.specs.Weights.{default_weights, greatest_toll, weight_of};
+ghost use Rattle.penalty_sheet.specs.Weights.{charge, default_weights, greatest_toll, weight_of};
 
 /// The greatest number of a toll: the tolls are Q1 to Q21.
 pub const GREATEST_TOLL: u8 = 21;
@@ -40,4 +40,18 @@ pub fn weight(sheet: &Sheet, toll: u8) -> u16
     ensures { result ≡ weight_of sheet.now toll }
 {
     sheet.weights[toll as usize - 1]
+}
+
+/// The weight of a toll where it stands, else nothing.
+pub fn toll_if(sheet: &Sheet, toll: u8, stands: bool) -> u64
+    requires first { 1 ≤ toll }
+    requires last { toll ≤ greatest_toll }
+    ensures value { result ≡ charge sheet.now toll stands }
+    ensures bound { result ≤ 65535 }
+{
+    if stands {
+        u64::from(weight(sheet, toll))
+    } else {
+        0
+    }
 }

@@ -8,6 +8,7 @@ use Rattle.std.specs.Option.{option_map_or}
 use Rattle.std.specs.declared.cmp.Ordering.TheVariants.{Less}
 use Rattle.std.proofs.lemmas.Bool.{cases_lt, eq-eqb, or_parts}
 use Rattle.std.proofs.lemmas.Bool.Decides.{nat_tests}
+use Rattle.std.specs.Ordering.{is_lt}
 use Rattle.cert_text.specs.declared.answers.CertHead.{CertHead}
 use Rattle.cert_text.specs.declared.answers.CertHead.TheVariants.{Best, Nothing}
 use Rattle.cert_text.specs.declared.claim.Claim.TheVariants.{Open, Broken, NoChain, Floor, TheScore}
@@ -15,7 +16,7 @@ use Rattle.cert_tree.proofs.OwnClaims.{written_from}
 use Rattle.cert_tree.specs.Trees.{AreTrueFrom}
 use Rattle.cert_law.specs.Certificates.{Holds}
 use Rattle.cert_law.specs.Claims.{IsNoBetter, has_break_of}
-use Rattle.cert_law.specs.Writer.{columns_order, is_less, is_no_better, is_setting_of, least_break}
+use Rattle.cert_law.specs.Writer.{columns_order, is_no_better, is_setting_of, least_break}
 use Rattle.cert_law.proofs.Orders.{less-order}
 use Rattle.cert_law.proofs.PrefixTruths.{find_passes, owed_are_true, sound, unbroken_if_none}
 use Rattle.cert_law.proofs.WrittenClaims.{no_better_from_test, setting_from_test, test_from_setting}
@@ -64,8 +65,8 @@ module _ (ex : Exercise) (valid : IsValid ex) (sheet : Sheet) (lists : List Pric
   whole_is_closed (Best penalty score) holds p floor lawful above other better =
       at (earlier-cases score.columns p (holds.0.lawful.setting.whole ∙ sym lawful.setting.whole))
     where
-      parts : (nat_lt penalty floor ≡ false) × (((floor == penalty) && is_less (columns_order score.columns p)) ≡ false)
-      parts = or_parts (nat_lt penalty floor) ((floor == penalty) && is_less (columns_order score.columns p)) better
+      parts : (nat_lt penalty floor ≡ false) × (((floor == penalty) && is_lt (columns_order score.columns p)) ≡ false)
+      parts = or_parts (nat_lt penalty floor) ((floor == penalty) && is_lt (columns_order score.columns p)) better
 
       same : (floor ≡ penalty) × (penalty_of ex sheet p ≡ penalty_of ex sheet score.columns)
       same =
@@ -81,8 +82,8 @@ module _ (ex : Exercise) (valid : IsValid ex) (sheet : Sheet) (lists : List Pric
 
       not_less : columns_order score.columns p ≡ Less → ⊥
       not_less h =
-          true≢false (sym (ap (λ b. b && is_less (columns_order score.columns p)) (eq-eqb floor penalty same.0)
-          ∙ ap is_less h) ∙ parts.1)
+          true≢false (sym (ap (λ b. b && is_lt (columns_order score.columns p)) (eq-eqb floor penalty same.0)
+          ∙ ap is_lt h) ∙ parts.1)
 
       at : IsEarlier score.columns p ⊎ ((score.columns ≡ p) ⊎ IsEarlier p score.columns) → ⊥
       at (inl h) = not_less (less-order score.columns p h)

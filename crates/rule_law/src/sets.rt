@@ -1,6 +1,7 @@
 //! Sets of rules and of voices.
 
-ghost use Rattle.std.specs.Prelude.{◌≡◌, ◌==◌, ◌||◌, ◌&&◌, ◌<◌, ◌↔◌, ℕ, IsTrue, length};
+ghost use Rattle.std.specs.Prelude.{◌≡◌, ◌==◌, ◌||◌, ◌&&◌, ◌<◌, ℕ, length};
+ghost use Rattle.std.specs.List.{find};
 ghost use Rattle.rule_law.specs.Voices as voices_words;
 ghost use Rattle.rule_law.specs.Voices.{has_rule};
 
@@ -26,6 +27,18 @@ impl RuleSet {
             return false;
         }
         (bits >> rule) & 1 == 1
+    }
+
+    /// The first of these rules that is in the set.
+    pub fn first_of(self, rules: &[u8]) -> Option<u8>
+        ensures { result ≡ find (has_rule self.bits) rules.now }
+    {
+        for rule in rules {
+            if self.has(*rule) {
+                return Some(*rule);
+            }
+        }
+        None
     }
 
     /// The set with a rule added, where `on` is true.

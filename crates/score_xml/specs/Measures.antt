@@ -3,7 +3,7 @@ use Rattle.std.specs.Prelude.{ℕ, ◌+◌, ◌==◌, List, [], ◌∷◌, ◌++
 use Rattle.std.specs.Fmt.{decimal}
 use Rattle.std.specs.List.{flat_map, range_with_len}
 use Rattle.fux_pitch.specs.declared.mode.Mode.{Mode}
-use Rattle.fux_pitch.specs.declared.mode.Mode.TheVariants.{Dorian, Phrygian, Lydian, Mixolydian, Aeolian, Ionian}
+use Rattle.fux_pitch.specs.Modes.{mode_name}
 use Rattle.fux_grid.specs.declared.cell.Cell.{Cell}
 use Rattle.fux_grid.specs.declared.exercise.Exercise.{Exercise}
 use Rattle.written_notes.specs.declared.bar.Written.{Written}
@@ -48,15 +48,6 @@ spot_of voice bar note = record { voice = voice; bar = bar; note = note }
 abbrev pub note_rows : List Written → List SheetMark → ℕ → ℕ → List Written → List ℕ
 note_rows notes marks voice bar some =
     flat_map (λ note. marked_row notes marks (spot_of voice bar note)) some
-
--- the name of a mode
-abbrev pub mode_name : Mode → List ℕ
-mode_name Dorian = codes "dorian"
-mode_name Phrygian = codes "phrygian"
-mode_name Lydian = codes "lydian"
-mode_name Mixolydian = codes "mixolydian"
-mode_name Aeolian = codes "aeolian"
-mode_name Ionian = codes "ionian"
 
 -- the element of a clef
 abbrev pub clef_element : Clef → List ℕ

@@ -1,11 +1,11 @@
 //! The rows of a bar and of a part.
 
 ghost use Rattle.std.specs.Prelude.{◌≡◌, ◌++◌, ◌<◌, OnOk, string_bytes};
-ghost use Rattle.score_xml.specs.Measures.{attributes, clef_element, first_attributes, further_rules, marked_row, measure, mode_name, note_rows, part, rules_row, rules_words, words_row, measures as measure_rows};
+ghost use Rattle.score_xml.specs.Measures.{attributes, clef_element, first_attributes, further_rules, marked_row, measure, note_rows, part, rules_row, rules_words, words_row, measures as measure_rows};
 
 use crate::note_rows::{put_if, put_note};
 use fux_grid::{Cell, Exercise};
-use fux_pitch::{Memory, Mode};
+use fux_pitch::{Memory, Mode, mode_name};
 use std::fmt::Write;
 use written_notes::{Clef, SheetMark, Spot, Written, clef_of, rules_at, sheet_notes};
 
@@ -89,20 +89,6 @@ fn put_notes(
         put_marked(out, notes, marks, &spot)?;
     }
     Ok(())
-}
-
-/// The name of a mode.
-pub(crate) fn mode_name(mode: Mode) -> &'static str
-    ensures { result.now ≡ mode_name mode }
-{
-    match mode {
-        Mode::Dorian => "dorian",
-        Mode::Phrygian => "phrygian",
-        Mode::Lydian => "lydian",
-        Mode::Mixolydian => "mixolydian",
-        Mode::Aeolian => "aeolian",
-        Mode::Ionian => "ionian",
-    }
 }
 
 /// The element of a clef.

@@ -1,8 +1,7 @@
 //! Placed notes as an answer to a lesson.
 
-ghost use Rattle.std.specs.Prelude.{◌≡◌, ◌++◌, IfOk, Ok, OnOk};
+ghost use Rattle.std.specs.Prelude.{◌≡◌, IfOk, Ok};
 ghost use Rattle.fux_grid.specs.Exercises.{IsGiven, IsValid};
-ghost use Rattle.voice_lines.specs.Lines.{cantus_cells, note_cells};
 ghost use Rattle.smf_answers.specs.Faults.{Gives};
 ghost use Rattle.smf_answers.specs.Joined as words;
 ghost use Rattle.smf_answers.specs.Joined.{bars_in, line_of, lines_of, score_in, voices_fault};
@@ -12,10 +11,10 @@ use crate::cantus::{are_late, cantus_fault};
 use crate::fault::JoinFault;
 use crate::orders::{cantus_at, voice_of};
 use fux_grid::{Cell, Exercise, Score};
-use fux_pitch::{List, Memory, Pitch};
+use fux_pitch::{List, Memory};
 use smf_score::{Placed, SmfFault, cells_of, last_slot};
 use std::alloc::Global;
-use voice_lines::score_of;
+use voice_lines::{cantus_cells, score_of};
 
 /// How many bars there are, the last one whole.
 fn bars_in(voices: &[List<Placed>]) -> u64
@@ -23,26 +22,6 @@ fn bars_in(voices: &[List<Placed>]) -> u64
 {
     let last = last_slot(voices);
     last / 8 + u64::from(last % 8 > 0)
-}
-
-/// Appends the cells of a note of a whole bar.
-fn put_note(cells: &mut Vec<Cell>, pitch: Pitch) -> Result<(), Memory>
-    ensures { OnOk result (cells.new.items ≡ cells.old.items ++ note_cells pitch 8) }
-{
-    let held = Cell::Hold(pitch);
-    cells.extend_from_slice(&[Cell::Start(pitch), held, held, held, held, held, held, held])?;
-    Ok(())
-}
-
-/// The cells of a cantus.
-fn cantus_cells(alloc: Global, cantus: &[Pitch]) -> Result<Vec<Cell>, Memory>
-    ensures { IfOk result (λ cells. cells.items ≡ cantus_cells cantus.now) }
-{
-    let mut cells = Vec::new(alloc);
-    for pitch in cantus {
-        put_note(&mut cells, *pitch)?;
-    }
-    Ok(cells)
 }
 
 /// The cells of a voice, where this voice of the file is the cantus.

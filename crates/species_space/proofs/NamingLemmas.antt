@@ -6,7 +6,8 @@ use Rattle.std.proofs.lemmas.List.{get_or_past}
 use Rattle.fux_grid.specs.declared.exercise.Exercise.{Exercise}
 use Rattle.fux_grid.specs.Exercises.{AreSpecies, IsSpecies, IsValid, species_in}
 use Rattle.fux_grid.proofs.SpeciesLemmas.{species-bounds, species-cantus}
-use Rattle.species_space.specs.Naming.{AreFreelyNamed, AreNamed, IsMisnamed, all_species_with, named_for, species_with}
+use Rattle.fux_grid.specs.Namings.{AreNamed, named_for}
+use Rattle.species_space.specs.Naming.{AreFreelyNamed, IsMisnamed, all_species_with, species_with}
 
 -- beyond the four no voice is named
 pub none_beyond : (ex : Exercise) (named : List (Option ℕ)) (v : ℕ) → length named ≤ v → IsMisnamed ex named v → ⊥

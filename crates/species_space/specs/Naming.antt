@@ -2,15 +2,7 @@
 use Rattle.std.specs.Prelude.{◌≡◌, ℕ, ◌<◌, ◌≤◌, ◌⊎◌, List, [], ◌∷◌, Option, None, IfSome, IsSome, length, map, slice_index_or, unwrap_or}
 use Rattle.fux_grid.specs.declared.exercise.Exercise.{Exercise}
 use Rattle.fux_grid.specs.Exercises.{IsFree, species_in}
-
--- the species that is named for a voice
-abbrev pub named_for : List (Option ℕ) → ℕ → Option ℕ
-named_for named v = slice_index_or named v None
-
--- each of four voices has a species from 2 to 5, or none that is named
-pub record AreNamed (named : List (Option ℕ)) : Type 0 where
-  pub four : length named ≡ 4
-  pub each : (v : ℕ) → IfSome (named_for named v) (λ species. (2 ≤ species) × (species ≤ 5))
+use Rattle.fux_grid.specs.Namings.{named_for}
 
 -- a voice is named that may not be: it isn't free, or the exercise itself says its species
 pub record IsMisnamed (ex : Exercise) (named : List (Option ℕ)) (v : ℕ) : Type 0 where

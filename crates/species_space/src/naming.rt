@@ -2,7 +2,8 @@
 
 ghost use Rattle.std.specs.Prelude.{◌≡◌, ◌↔◌, ◌<◌, IfErr, IfNone, IfOk, IfSome, IsTrue, OnOk};
 ghost use Rattle.fux_grid.specs.Exercises.{AreSpecies, IsValid};
-ghost use Rattle.species_space.specs.Naming.{AreFreelyNamed, AreNamed, IsFirstMisnamed, IsMisnamed, all_species_with, species_with};
+ghost use Rattle.fux_grid.specs.Namings.{AreNamed};
+ghost use Rattle.species_space.specs.Naming.{AreFreelyNamed, IsFirstMisnamed, IsMisnamed, all_species_with, species_with};
 
 use fux_grid::{Exercise, is_free, species_of};
 

@@ -1,13 +1,13 @@
 //! Lines of cells, one for each voice, as scores.
 #![tactic(auto)]
 
-ghost use Rattle.std.specs.Prelude.{◌≡◌, ◌*◌, ◌≤◌, IfOk, length};
+ghost use Rattle.std.specs.Prelude.{◌≡◌, ◌*◌, ◌≤◌, ◌++◌, IfOk, OnOk, length};
 ghost use Rattle.std.specs.List.{AllByRecursion};
 ghost use Rattle.fux_grid.specs.declared.cell.Cell.TheVariants.{Rest};
-ghost use Rattle.voice_lines.specs.Lines.{LineFollows, column_of, score_of};
+ghost use Rattle.voice_lines.specs.Lines.{LineFollows, cantus_cells, column_of, note_cells, score_of};
 
 use fux_grid::{Cell, Column, Score, cell_of};
-use fux_pitch::{List, Memory};
+use fux_pitch::{List, Memory, Pitch};
 use std::alloc::Global;
 
 /// The column of lines of cells at a slot.
@@ -20,6 +20,26 @@ fn column_of(lines: &[List<Cell>], slot: usize) -> Column
         column.push(cell_of(line.as_slice(), slot));
     }
     column
+}
+
+/// Appends the cells of a note of a whole bar.
+fn put_note(cells: &mut Vec<Cell>, pitch: Pitch) -> Result<(), Memory>
+    ensures { OnOk result (cells.new.items ≡ cells.old.items ++ note_cells pitch 8) }
+{
+    let held = Cell::Hold(pitch);
+    cells.extend_from_slice(&[Cell::Start(pitch), held, held, held, held, held, held, held])?;
+    Ok(())
+}
+
+/// The cells of a cantus: a whole note in each bar.
+pub fn cantus_cells(alloc: Global, cantus: &[Pitch]) -> Result<Vec<Cell>, Memory>
+    ensures { IfOk result (λ cells. cells.items ≡ cantus_cells cantus.now) }
+{
+    let mut cells = Vec::new(alloc);
+    for pitch in cantus {
+        put_note(&mut cells, *pitch)?;
+    }
+    Ok(cells)
 }
 
 /// The score of lines of cells of so many bars. Behind its end a line rests.

@@ -1,8 +1,6 @@
 //! The command `drill`.
 
-ghost use Rattle.std.specs.Prelude.{◌≡◌, ◌++◌, IfOk, OnOk, false, map, string_bytes, true};
-ghost use Rattle.fux_pitch.specs.Names.{name_of};
-ghost use Rattle.fux_text.specs.Words.{spaced};
+ghost use Rattle.std.specs.Prelude.{◌≡◌, IfOk, false, string_bytes, true};
 ghost use Rattle.fux_grid.specs.Exercises.{IsValid};
 ghost use Rattle.works.specs.Drilled.{AddsDrillLine, Drills, HasDrillLines, IsDrillFound, drill_heading};
 ghost use Rattle.works.specs.Searched.{Finds, HasWholeScore};
@@ -11,7 +9,8 @@ ghost use Rattle.works.specs.Works.{Answers};
 use crate::searching::{Found, best_setting, sharp_setting};
 use crate::work::{Output, Stop, Verdict};
 use fux_grid::Exercise;
-use fux_pitch::{Memory, Pitch};
+use fux_pitch::Memory;
+use fux_text::put_pitches;
 use penalty_sheet::default_sheet;
 use score_marker::marks;
 use std::alloc::Global;
@@ -83,17 +82,6 @@ fn heading(alloc: Global, number: u32, exercise: &Exercise) -> Result<String, Me
     put_pitches(&mut text, exercise.cantus.as_slice())?;
     text.push('\n')?;
     Ok(text)
-}
-
-/// Appends the names of pitches, with a space before each.
-pub fn put_pitches(text: &mut String, pitches: &[Pitch]) -> Result<(), Memory>
-    ensures { OnOk result (string_bytes text.new ≡ string_bytes text.old
-        ++ spaced (map name_of pitches.now)) }
-{
-    for pitch in pitches {
-        write!(text, " {pitch}")?;
-    }
-    Ok(())
 }
 
 /// Appends the line of what was found.

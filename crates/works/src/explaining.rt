@@ -2,8 +2,9 @@
 
 ghost use Rattle.std.specs.Prelude.{◌≡◌, ℕ, IfOk, List};
 ghost use Rattle.class_marker.specs.Markings.{IsContent};
-ghost use Rattle.command_words.specs.Commands.{AreNamed, IsNamedSubject};
+ghost use Rattle.command_words.specs.Commands.{IsNamedSubject};
 ghost use Rattle.fux_grid.specs.Exercises.{IsValid};
+ghost use Rattle.fux_grid.specs.Namings.{AreNamed};
 ghost use Rattle.mark_evidence.specs.Explanations.{ExplainsBy, ExplainsCantus, ExplainsExercise};
 ghost use Rattle.text_faults.specs.Explained.{TellsFaults};
 ghost use Rattle.works.specs.declared.work.Verdict.TheVariants.{Unfavorable};

@@ -12,7 +12,6 @@ ghost use Rattle.works.specs.Endings.{IsMade};
 ghost use Rattle.works.specs.Works.{Answers, AreContents};
 
 use crate::complaint::Complaint;
-use crate::drilling::put_pitches;
 use crate::making::{read_weights, said};
 use crate::telling::{Telling, told};
 use crate::weighing::priced_of;
@@ -23,6 +22,7 @@ use class_marker::Text;
 use command_words::{Search, Wanted};
 use fux_pitch::{Memory, Pitch};
 use fux_port::Shelf;
+use fux_text::put_pitches;
 use std::alloc::Global;
 use std::fmt::Write;
 

@@ -3,6 +3,7 @@
 
 ghost use Rattle.std.specs.Prelude.{◌≡◌, ◌++◌, IfErr, IfOk, string_bytes, true};
 ghost use Rattle.fux_grid.specs.Exercises.{HasCantus, IsComplete, IsValid};
+ghost use Rattle.fux_grid.specs.Namings.{AreNamed};
 ghost use Rattle.fux_port.specs.Counts.{Rose};
 ghost use Rattle.species_space.specs.Mixed.{IsMixed, exercise_of};
 ghost use Rattle.fux_text.specs.Lines.{setting_text};
@@ -11,7 +12,7 @@ ghost use Rattle.score_marker.specs.Marks.{AreMarks};
 ghost use Rattle.species_space.specs.Paths.{is_alive_path, prefix_at};
 ghost use Rattle.works.specs.Blame.{Blames, BlamesNoFile, IsUnserved, ServesTask};
 ghost use Rattle.works.specs.Little.{ReadsLittle};
-ghost use Rattle.command_words.specs.Commands.{AreNamed, on_mixed, sheet_named};
+ghost use Rattle.command_words.specs.Commands.{on_mixed, sheet_named};
 ghost use Rattle.works.specs.Composed.{penalty_line};
 ghost use Rattle.works.specs.Mixed.{ComposesMixed, ComposesMixedSharply, MakesMixed, MakesOfMixed, MarksMixed, NamesSpecies};
 ghost use Rattle.works.specs.Endings.{IsMade};

@@ -15,7 +15,7 @@ returns-then-is_no_better c = λ stated p judged tail.
     let none : least_break t.exercise p ≡ None = sym
     (find-same (has_rule c.args.judged.now.broken.bits) _ judged.broken rules_read)
     ∙ ap (find (has_rule c.args.judged.now.broken.bits)) (sym c.every_rule.ensures.value)
-    ∙ sym c.first_broken.ensures ∙ c.in_default.is in
+    ∙ sym c.first_of.ensures ∙ c.in_default.is in
     let better = c.is_no_better.ensures p judged
     ∙ ap (λ n. is_no_better t.head p (n + c.args.judged.now.least + c.in-Some-tail.tail)) judged.paid
     ∙ ap (λ n. is_no_better t.head p (paid t.exercise t.sheet p + n + c.in-Some-tail.tail)) judged.least in
@@ -29,7 +29,7 @@ returns-else-is_no_better c = λ stated p judged tail.
     let none : least_break t.exercise p ≡ None = sym
     (find-same (has_rule c.args.judged.now.broken.bits) _ judged.broken rules_read)
     ∙ ap (find (has_rule c.args.judged.now.broken.bits)) (sym c.every_rule.ensures.value)
-    ∙ sym c.first_broken.ensures ∙ c.in_default.is in
+    ∙ sym c.first_of.ensures ∙ c.in_default.is in
     let better = c.is_no_better.ensures p judged
     ∙ ap (λ n. is_no_better t.head p (n + c.args.judged.now.least + c.in-Some-tail.tail)) judged.paid
     ∙ ap (λ n. is_no_better t.head p (paid t.exercise t.sheet p + n + c.in-Some-tail.tail)) judged.least in

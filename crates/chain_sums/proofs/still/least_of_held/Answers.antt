@@ -1,9 +1,9 @@
 use Rattle.std.proofs.Common.{◌≡◌, ◌<◌, ◌↔◌, ℕ, List, [], Some, None, length, map, get_or, ap, sym, ◌∙◌, subst, arith}
 use Rattle.std.specs.List.{Contains}
 use Rattle.fux_grid.specs.declared.cell.Cell.{Cell}
+use Rattle.fux_grid.specs.Cells.{held}
 use Rattle.chain_sums.specs.Chains.{AreFull}
 use Rattle.chain_sums.specs.Rows.{IsSumAt, IsSumOf}
-use Rattle.chain_sums.specs.Still.{held}
 use Rattle.chain_sums.proofs.LeastLemmas.{length-columns, row_is_enough}
 use Rattle.chain_sums.proofs.StillLemmas.{none_held, one_held}
 use Rattle.chain_sums.proofs.still.least_of_held.Goals as goal

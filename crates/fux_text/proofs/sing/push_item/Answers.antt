@@ -1,5 +1,5 @@
 use Rattle.std.proofs.Common.{[], ◌∷◌, ◌++◌, ap, ◌∙◌, arith}
-use Rattle.fux_text.specs.Sing.{held}
+use Rattle.fux_grid.specs.Cells.{held}
 use Rattle.fux_text.proofs.ItemRuns.{run-longer}
 use Rattle.fux_text.proofs.sing.push_item.Goals as goal
 

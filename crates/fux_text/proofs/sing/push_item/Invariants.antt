@@ -1,5 +1,5 @@
 use Rattle.std.proofs.Common.{◌≡◌, ◌-◌, ◌∷◌, ◌++◌, replicate}
-use Rattle.fux_text.specs.Sing.{held}
+use Rattle.fux_grid.specs.Cells.{held}
 use Rattle.fux_text.proofs.sing.push_item.Given as goal
 
 abbrev pub invariant-loop : goal.invariant-loop

@@ -1,6 +1,7 @@
 use Rattle.std.proofs.Common.{◌++◌, string_bytes, codes}
 use Rattle.mark_evidence.proofs.Pushed.{pushed, said}
-use Rattle.mark_evidence.specs.Asked.{mode_name, mode_told}
+use Rattle.fux_pitch.specs.Modes.{mode_name}
+use Rattle.mark_evidence.specs.Asked.{mode_told}
 use Rattle.mark_evidence.proofs.asking.put_mode.Goals as goal
 
 pub returns : goal.returns

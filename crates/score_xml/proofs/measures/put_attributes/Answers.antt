@@ -1,6 +1,7 @@
 use Rattle.std.proofs.Common.{◌++◌, string_bytes, codes}
 use Rattle.score_xml.proofs.Pushed.{pushed, said}
-use Rattle.score_xml.specs.Measures.{clef_element, mode_name, attributes}
+use Rattle.fux_pitch.specs.Modes.{mode_name}
+use Rattle.score_xml.specs.Measures.{clef_element, attributes}
 use Rattle.score_xml.proofs.measures.put_attributes.Goals as goal
 
 pub returns : goal.returns

@@ -1,5 +1,6 @@
 use Rattle.std.proofs.Common.{map, sym, ap, ◌∙◌}
-use Rattle.chain_sums.specs.Still.{held, packed_held}
+use Rattle.fux_grid.specs.Cells.{held}
+use Rattle.chain_sums.specs.Still.{packed_held}
 use Rattle.chain_sums.proofs.StillLemmas.{packed_held-packed}
 use Rattle.chain_sums.proofs.menu.Menu.place_of_held.Goals as goal
 

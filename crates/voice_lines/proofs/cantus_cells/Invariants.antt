@@ -1,6 +1,6 @@
 use Rattle.std.proofs.Common.{◌≡◌, take}
 use Rattle.voice_lines.specs.Lines.{cantus_cells}
-use Rattle.smf_answers.proofs.joined.cantus_cells.Given as goal
+use Rattle.voice_lines.proofs.cantus_cells.Given as goal
 
 -- the cells of the pitches so far
 abbrev pub invariant-loop-pitch : goal.invariant-loop-pitch

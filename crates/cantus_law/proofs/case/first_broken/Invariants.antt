@@ -1,9 +1,0 @@
-use Rattle.std.proofs.Common.{◌≡◌, drop}
-use Rattle.std.specs.List.{find}
-use Rattle.rule_law.specs.Voices.{has_rule}
-use Rattle.cantus_law.proofs.case.first_broken.Given as goal
-
--- the first is among those that are left
-abbrev pub invariant-loop-rule : goal.invariant-loop-rule
-invariant-loop-rule l =
-    find (has_rule l.broken.bits) l.rules ≡ find (has_rule l.broken.bits) (drop l.rule-index l.rules)
