@@ -4,9 +4,10 @@ use Rattle.std.proofs.Common.{◌≡◌, ℕ, zero, suc, ◌+◌, ◌-◌, ◌<�
 use Rattle.fux_pitch.specs.declared.pitch.Pitch.{Pitch}
 use Rattle.fux_pitch.specs.Key.{IsPitch-from_test, has_pitch}
 use Rattle.fux_pitch.specs.Names.{name_of}
+use Rattle.fux_pitch.specs.Pitch.{pitch_made}
 
 abbrev pitch_from : (degree : ℕ) (alter : ℤ) → has_pitch degree alter ≡ true → Pitch
-pitch_from degree alter e = record { degree = degree; alter = alter; is_pitch = IsPitch-from_test degree alter e }
+pitch_from degree alter e = pitch_made degree alter (IsPitch-from_test degree alter e)
 
 -- the text is a pitch's name
 abbrev pub Names : List ℕ → Type 0

@@ -10,7 +10,7 @@ use Rattle.std.proofs.Math.Nat.{mul-le-mul_left}
 use Rattle.std.proofs.lemmas.Bool.{cases_order}
 use Rattle.std.proofs.lemmas.Int.{ints}
 use Rattle.fux_pitch.specs.declared.pitch.Pitch.{Pitch}
-use Rattle.fux_pitch.specs.Pitch.{key_of, degree_of}
+use Rattle.fux_pitch.specs.Pitch.{alter_of, degree_of, key_of}
 use Rattle.fux_pitch.specs.Key.{key_at}
 use Rattle.fux_grid.specs.declared.cell.Cell.{Cell}
 use Rattle.fux_grid.specs.declared.cell.Cell.TheVariants.{Rest, Hold, Start}
@@ -73,7 +73,7 @@ key_small p =
     bounded n z e l = omega (arith, ints)
 
 pub degree_small : (p : Pitch) → degree_of p < 64
-degree_small p = bounded p.degree p.alter p.is_pitch.high p.is_pitch.flat
+degree_small p = bounded (degree_of p) (alter_of p) p.is_pitch.high p.is_pitch.flat
   where
     bounded : (d : ℕ) (z : ℤ) → key_at d z ≤ℤ pos 96 → negsuc 0 ≤ℤ z → d < 64
     bounded d z h l = omega (arith, ints)

@@ -13,9 +13,11 @@ use Rattle.fux_pitch.proofs.PitchLemmas.{pitch_at-parts, pitch_at-is}
 pub octave-range : (p : Pitch) → (1 ≤ degree_of p / 7) × (degree_of p / 7 ≤ 7)
 octave-range p =
     let least : 7 ≤ p.degree = p.is_pitch.least_degree in
-    let flat : negsuc 0 ≤ℤ p.alter = p.is_pitch.flat in
-    let high : (pos (12 + 12 * (p.degree / 7) + letter_key (p.degree % 7)) +ℤ p.alter) ≤ℤ pos 96 = p.is_pitch.high in
-    (omega arith, omega (arith, ints))
+    (omega arith, few_octaves (p.degree / 7) (letter_key (p.degree % 7)) (alter_of p) p.is_pitch.flat p.is_pitch.high)
+  where
+    few_octaves : (octaves letter : ℕ) (alter : ℤ) → negsuc 0 ≤ℤ alter
+        → (pos (12 + 12 * octaves + letter) +ℤ alter) ≤ℤ pos 96 → octaves ≤ 7
+    few_octaves octaves letter alter flat high = omega (arith, ints)
 
 -- a letter, an alteration and a digit, as a name is written with them
 abbrev pub spelled_out : ℕ → ℤ → ℕ → List ℕ

@@ -88,7 +88,7 @@ key_of-spelled key p h =
     × (alter_of p ≡ (class_spelling (key % 12)).1) = pitch_at-parts _ _ p h in
     let L : ℕ → Type 0 = λ n. 7 ≤ n in
     let least : 24 ≤ key = key-from_degree key (subst L parts.0 p.is_pitch.least_degree) in
-    ap (λ d. key_at d p.alter) parts.0 ∙ ap (key_at (7 * (key / 12 - 1) + (class_spelling (key % 12)).0)) parts.1
+    ap (λ d. key_at d (alter_of p)) parts.0 ∙ ap (key_at (7 * (key / 12 - 1) + (class_spelling (key % 12)).0)) parts.1
     ∙ key_at-spelling key (omega arith)
 
 -- exactly the keys from 24 to 96 are spelled

@@ -3,7 +3,7 @@
 ghost use Rattle.std.specs.Prelude.{◌≡◌, ◌≤◌, pos};
 ghost use Rattle.fux_pitch.specs.Pitch.{key_of};
 
-use crate::pitch::{Pitch, natural};
+use crate::pitch::Pitch;
 
 /// The key of a pitch, as the MIDI standard numbers keys: C4 is 60.
 pub fn semitone(p: Pitch) -> u8
@@ -11,6 +11,5 @@ pub fn semitone(p: Pitch) -> u8
     ensures least { 24 ≤ result }
     ensures most { result ≤ 96 }
 {
-    let key = natural(p.degree()) + i16::from(p.alter());
-    key as u8
+    p.key()
 }

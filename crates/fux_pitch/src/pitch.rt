@@ -1,17 +1,18 @@
 //! Pitches: degrees of the staff with their alterations.
 
 ghost use Rattle.std.specs.Prelude.{◌≡◌, ◌↔◌, ◌≤◌, IsSome, IfSome, pos};
-ghost use Rattle.fux_pitch.specs.Key.{IsPitch, natural_key};
+ghost use Rattle.fux_pitch.specs.Key.{IsPitch, alter_from, natural_key};
 
 /// A pitch as the staff writes it: a degree, which counts the letters up from C0, and an alteration
 /// by a sharp, a flat or nothing. C4 has degree 28. `C#4` and `Db4` are two pitches of one key.
 ///
-/// Every pitch has a degree of 7 or more and a key from 24 to 96.
+/// Every pitch has a degree of 7 or more and a key from 24 to 96. Its key is kept, and not its
+/// alteration: intervals are asked for more often than names.
 #[derive(Clone, Copy, Debug, PartialEq, Eq)]
 pub struct Pitch {
     degree: u8,
-    alter: i8,
-    pub ghost is_pitch: { IsPitch degree alter },
+    key: u8,
+    pub ghost is_pitch: { IsPitch degree (alter_from degree key) },
 }
 
 /// The key of the natural on this degree: seven letters share the twelve keys of an octave as
@@ -26,7 +27,7 @@ pub(crate) fn natural(degree: u8) -> i16
 }
 
 impl Pitch {
-    ghost use Rattle.fux_pitch.specs.Pitch.{degree_of, alter_of, pitch_at};
+    ghost use Rattle.fux_pitch.specs.Pitch.{degree_of, alter_of, key_of, pitch_at};
 
     /// The pitch of a degree and an alteration, where there is one: 1 raises by a semitone, -1
     /// lowers.
@@ -43,7 +44,10 @@ impl Pitch {
         if key < 24 || key > 96 {
             return None;
         }
-        Some(Pitch { degree, alter })
+        Some(Pitch {
+            degree,
+            key: key as u8,
+        })
     }
 
     /// The letters from C0 up to this pitch, from 7 to 49. Divided by 7 it gives the octave, and as
@@ -58,6 +62,16 @@ impl Pitch {
     pub fn alter(self) -> i8
         ensures { result ≡ alter_of self }
     {
-        self.alter
+        (i16::from(self.key) - natural(self.degree)) as i8
+    }
+
+    /// The key.
+    #[inline]
+    pub(crate) fn key(self) -> u8
+        ensures value { pos result ≡ key_of self }
+        ensures least { 24 ≤ result }
+        ensures most { result ≤ 96 }
+    {
+        self.key
     }
 }

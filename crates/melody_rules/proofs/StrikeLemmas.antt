@@ -1,9 +1,7 @@
 -- Each pitch has a place of its own, so one strike more changes one count.
 use Rattle.std.proofs.Common.{◌≡◌, ◌≢◌, ℕ, zero, suc, ◌+◌, ◌<◌, ◌≤◌, ◌==◌, true, false, cond, List, [], ◌∷◌, length, replicate, refl, ap, sym, ◌∙◌, subst, arith, inl, inr}
 use Rattle.std.specs.Prelude.{ℤ, pos, negsuc, ◌≤ℤ◌, count_by, nat_le, slice_index, slice_set}
-use Rattle.std.specs.Ordering.{int_eq}
-use Rattle.std.proofs.lemmas.Bool.{and_from, cases_Bool, cases_lt}
-use Rattle.std.proofs.lemmas.Bool.Decides.{nat_tests}
+use Rattle.std.proofs.lemmas.Bool.{and_from, cases_Bool, cases_lt, eq-eqb}
 use Rattle.std.proofs.lemmas.Int.{ints}
 use Rattle.std.proofs.lemmas.List.{get_or-replicate, get_or-set_same, get_or-set_other, get_or_past, length-replicate}
 use Rattle.std.proofs.lemmas.List.Sums.{count_by-le-length, sum_by-cons}
@@ -13,7 +11,6 @@ use Rattle.fux_pitch.proofs.PitchLemmas.{equal_from_test, pitch_ext}
 use Rattle.rule_law.proofs.MenuStarts.{as_number-bound}
 use Rattle.melody_rules.specs.GaugeParts.{alter_place, place_in}
 use Rattle.melody_rules.specs.Gauges.{beyond_fourth}
-use Rattle.melody_rules.proofs.GaugeLemmas.{equal}
 
 -- the alteration of a place
 alter_at : ℕ → ℤ
@@ -33,8 +30,8 @@ alter_place-bound : (a : ℤ) → alter_place a < 3
 alter_place-bound a = grind arith
 
 same-self : (p : Pitch) → same_pitch p p ≡ true
-same-self p = and_from (degree_of p == degree_of p) (int_eq (alter_of p) (alter_of p)) (grind (arith, nat_tests))
-    (equal (alter_of p))
+same-self p =
+    and_from (p.degree == p.degree) (p.key == p.key) (eq-eqb p.degree p.degree refl) (eq-eqb p.key p.key refl)
 
 -- two pitches of one place are one
 place-one : (p q : Pitch) → place_in q ≡ place_in p → q ≡ p
