@@ -285,13 +285,15 @@ module _ (ex : Exercise) (i : ℕ) (before : Option (List Cell)) (next : List Ce
   for_each_voice e =
       between_two (list_any strictly (forms.voice_sets_of ex.voices)) (list_any strictly voice_sets)
       (breaks_strictly ex i before next rule)
-      (any_within strictly (forms.voice_sets_of ex.voices) voice_sets (at (ex.voices == 2)))
+      (any_within strictly (forms.voice_sets_of ex.voices) voice_sets (at (ex.voices == 2) (ex.voices == 3)))
       (any_within strictly voice_sets all_sets refl)
       (of_form OneVoice e)
     where
-      at : (b : Bool) → list_all (λ x. list_any (λ y. y == x) voice_sets) (if b then 1 ∷ 2 ∷ [] else voice_sets) ≡ true
-      at true = refl
-      at false = refl
+      at : (b c : Bool) → list_all (λ x. list_any (λ y. y == x) voice_sets)
+          (if b then 1 ∷ 2 ∷ [] else (if c then 1 ∷ 2 ∷ 4 ∷ [] else voice_sets)) ≡ true
+      at true c = refl
+      at false true = refl
+      at false false = refl
 
   pub for_each_pair : (rule_at rule).form ≡ TwoVoices → list_any strictly pair_sets
       ≡ breaks_strictly ex i before next rule
@@ -299,13 +301,15 @@ module _ (ex : Exercise) (i : ℕ) (before : Option (List Cell)) (next : List Ce
   for_each_pair e =
       between_two (list_any strictly (forms.pair_sets_of ex.voices)) (list_any strictly pair_sets)
       (breaks_strictly ex i before next rule)
-      (any_within strictly (forms.pair_sets_of ex.voices) pair_sets (at (ex.voices == 2)))
+      (any_within strictly (forms.pair_sets_of ex.voices) pair_sets (at (ex.voices == 2) (ex.voices == 3)))
       (any_within strictly pair_sets all_sets refl)
       (of_form TwoVoices e)
     where
-      at : (b : Bool) → list_all (λ x. list_any (λ y. y == x) pair_sets) (if b then 3 ∷ [] else pair_sets) ≡ true
-      at true = refl
-      at false = refl
+      at : (b c : Bool) → list_all (λ x. list_any (λ y. y == x) pair_sets)
+          (if b then 3 ∷ [] else (if c then 3 ∷ 5 ∷ 6 ∷ [] else pair_sets)) ≡ true
+      at true c = refl
+      at false true = refl
+      at false false = refl
 
 -- what is read of a link is what is read of its columns
 module _ (l : Link) (ex : Bor Exercise) (i : ℕ) (prev : Option (Bor (ArrayVec Cell))) (next : List Cell)

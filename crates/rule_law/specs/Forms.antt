@@ -18,11 +18,15 @@ all_sets = 1 ∷ 2 ∷ 3 ∷ 4 ∷ 5 ∷ 6 ∷ 7 ∷ 8 ∷ 9 ∷ 10 ∷ 11 ∷ 1
 
 -- the sets of one voice of so many voices
 abbrev pub voice_sets_of : ℕ → List ℕ
-voice_sets_of voices = if voices == 2 then 1 ∷ 2 ∷ [] else voice_sets
+voice_sets_of voices =
+    if voices == 2 then 1 ∷ 2 ∷ []
+    else (if voices == 3 then 1 ∷ 2 ∷ 4 ∷ [] else voice_sets)
 
 -- the sets of two voices
 abbrev pub pair_sets_of : ℕ → List ℕ
-pair_sets_of voices = if voices == 2 then 3 ∷ [] else pair_sets
+pair_sets_of voices =
+    if voices == 2 then 3 ∷ []
+    else (if voices == 3 then 3 ∷ 5 ∷ 6 ∷ [] else pair_sets)
 
 -- the set of all voices
 abbrev pub all_sets_of : ℕ → List ℕ
@@ -53,25 +57,33 @@ pub record IsOf (sets : List ℕ) (test : ℕ → Bool) : Type 0 where
 
 pub voice_form : (ex : Exercise) (test : ℕ → Bool) → IsOf (voice_sets_of ex.voices) (on_voice ex test)
 unfolding all_sets
-voice_form ex test = at (ex.voices == 2) refl
+voice_form ex test = at (ex.voices == 2) (ex.voices == 3) refl refl
   where
-    at : (b : Bool) → (ex.voices == 2) ≡ b → IsOf (voice_sets_of ex.voices) (on_voice ex test)
-    at true e = record {
+    at : (b c : Bool) → (ex.voices == 2) ≡ b → (ex.voices == 3) ≡ c → IsOf (voice_sets_of ex.voices) (on_voice ex test)
+    at true c e f = record {
       any = λ also. rw (eqb-true ex.voices 2 e) refl;
       sum = λ price. rw (eqb-true ex.voices 2 e) (omega arith);
     }
-    at false e = record { any = λ also. rw e refl; sum = λ price. rw e (omega arith) }
+    at false true e f = record {
+      any = λ also. rw (eqb-true ex.voices 3 f) refl;
+      sum = λ price. rw (eqb-true ex.voices 3 f) (omega arith);
+    }
+    at false false e f = record { any = λ also. rw (e, f) refl; sum = λ price. rw (e, f) (omega arith) }
 
 pub pair_form : (ex : Exercise) (test : ℕ → ℕ → Bool) → IsOf (pair_sets_of ex.voices) (on_pair ex test)
 unfolding all_sets
-pair_form ex test = at (ex.voices == 2) refl
+pair_form ex test = at (ex.voices == 2) (ex.voices == 3) refl refl
   where
-    at : (b : Bool) → (ex.voices == 2) ≡ b → IsOf (pair_sets_of ex.voices) (on_pair ex test)
-    at true e = record {
+    at : (b c : Bool) → (ex.voices == 2) ≡ b → (ex.voices == 3) ≡ c → IsOf (pair_sets_of ex.voices) (on_pair ex test)
+    at true c e f = record {
       any = λ also. rw (eqb-true ex.voices 2 e) refl;
       sum = λ price. rw (eqb-true ex.voices 2 e) (omega arith);
     }
-    at false e = record { any = λ also. rw e refl; sum = λ price. rw e (omega arith) }
+    at false true e f = record {
+      any = λ also. rw (eqb-true ex.voices 3 f) refl;
+      sum = λ price. rw (eqb-true ex.voices 3 f) (omega arith);
+    }
+    at false false e f = record { any = λ also. rw (e, f) refl; sum = λ price. rw (e, f) (omega arith) }
 
 pub all_form : (ex : Exercise) (test : Bool)
     → IsOf (all_sets_of ex.voices) (λ voices. (voices == set_of_all ex.voices) && test)

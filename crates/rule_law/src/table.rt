@@ -62,10 +62,14 @@ const SINGLE_VOICES: [u8; 4] = [1, 2, 4, 8];
 
 const SINGLE_OF_TWO: [u8; 2] = [1, 2];
 
+const SINGLE_OF_THREE: [u8; 3] = [1, 2, 4];
+
 /// The sets of two voices.
 const PAIRS: [u8; 6] = [3, 5, 6, 9, 10, 12];
 
 const PAIR_OF_TWO: [u8; 1] = [3];
+
+const PAIRS_OF_THREE: [u8; 3] = [3, 5, 6];
 
 /// The sets of all voices, of two, three or four.
 const ALL_OF_TWO: [u8; 1] = [3];
@@ -80,7 +84,10 @@ fn single_voices(voices: u8) -> &'static [u8]
     ensures { result.now ≡ forms.voice_sets_of voices }
 {
     if voices == 2 {
-        &SINGLE_OF_TWO
+        return &SINGLE_OF_TWO;
+    }
+    if voices == 3 {
+        &SINGLE_OF_THREE
     } else {
         &SINGLE_VOICES
     }
@@ -91,7 +98,10 @@ fn single_voices(voices: u8) -> &'static [u8]
 fn pairs(voices: u8) -> &'static [u8]
     ensures { result.now ≡ forms.pair_sets_of voices }
 {
-    if voices == 2 { &PAIR_OF_TWO } else { &PAIRS }
+    if voices == 2 {
+        return &PAIR_OF_TWO;
+    }
+    if voices == 3 { &PAIRS_OF_THREE } else { &PAIRS }
 }
 
 /// The set of all voices.
