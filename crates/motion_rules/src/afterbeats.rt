@@ -10,7 +10,7 @@ ghost use Rattle.motion_rules.specs.Afterbeats as words;
 ghost use Rattle.motion_rules.specs.Afterbeats.{afterbeat_row};
 
 use fux_grid::{Cell, Exercise, VoiceSet, cell_of, species_of};
-use fux_pitch::{Pitch, interval_of};
+use fux_pitch::{Pitch, interval_of, is_perfect};
 use rule_law::{
     ColumnsAround, begins_bar, cell_behind, cells_behind, equal_perfects, interval_in, pair_of,
 };
@@ -61,13 +61,20 @@ pub fn differ(p: Option<Pitch>, q: Option<Pitch>) -> bool
     }
 }
 
-/// Whether both voices have gone to other pitches, from a perfect interval to an equal one.
+/// Whether both voices have gone to other pitches, from a perfect interval to an equal one. What
+/// they come to is looked at only where the first interval is perfect.
 fn arrive_in_parallel(before: &[Cell], now: &[Cell], v: usize, w: usize) -> bool
     ensures { result ≡ words.arrive_in_parallel before.now now.now v w }
 {
-    let equal = match (interval_in(before, v, w), interval_in(now, v, w)) {
-        (Some(i), Some(j)) => equal_perfects(i, j),
-        _ => false,
+    let Some(from) = interval_in(before, v, w) else {
+        return false;
+    };
+    if !is_perfect(from) {
+        return false;
+    }
+    let equal = match interval_in(now, v, w) {
+        Some(to) => equal_perfects(from, to),
+        None => false,
     };
     equal
         && differ(cell_of(before, v).pitch(), cell_of(now, v).pitch())
