@@ -470,6 +470,19 @@ quiet_settles n ex voices p col i on =
     Stirs : ℕ → Type 0
     Stirs r = is_told_later r ≡ true → newly_breaks (late_row r) ex voices p col i ≡ true → is_quiet (length p) col ≡ true → ⊥
 
+-- and a break of theirs stands within a bar
+pub broken_within : (n : ℕ) (ex : Exercise) (voices : ℕ) (p : List (List Cell)) (col : List Cell) (i : ℕ)
+    → GoesOn ex p (col ∷ []) → is_told_later n ≡ true → newly_breaks (late_row n) ex voices p col i ≡ true
+    → slot_of i ≢ 0
+broken_within n ex voices p col i on =
+    by_rule Within (λ told h. (passing_there ex voices p col i on h).1.slot)
+    (λ told h. (excuse_there ex voices p col i on h).1.slot)
+    (λ told h slot. both_ways false refl told) (λ told h slot. both_ways false refl told)
+    (λ r soon told. absurd (both_ways (is_told_later r) (rw (soon.no_passing, soon.no_excuse) refl) told)) n
+  where
+    Within : ℕ → Type 0
+    Within r = is_told_later r ≡ true → newly_breaks (late_row r) ex voices p col i ≡ true → slot_of i ≢ 0
+
 -- ---- S20 and S28
 
 -- what stands where a bar begins, and is settled so many columns later, is settled by the column at

@@ -12,5 +12,3 @@ pub mod OffBar
 pub mod PassingReadings
 pub mod Preparations
 pub mod Quiet
-pub mod ToldNotes
-pub mod ToldPlaces

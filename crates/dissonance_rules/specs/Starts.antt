@@ -1,13 +1,14 @@
 -- What is kept of a prefix for S15 and S27: where each voice's latest notes start.
-use Rattle.std.specs.Prelude.{◌≡◌, ℕ, ◌+◌, ◌<◌, ◌≤◌, ◌==◌, ◌||◌, Bool, false, List, [], ◌∷◌, ◌++◌, Some, length, slice_get, slice_index_or, if◌then◌else◌}
+use Rattle.std.specs.Prelude.{◌≡◌, ℕ, ◌+◌, ◌<◌, ◌≤◌, ◌==◌, ◌||◌, Bool, true, false, List, [], ◌∷◌, ◌++◌, Some, length, slice_get, slice_index_or, if◌then◌else◌}
 use Rattle.fux_grid.specs.declared.cell.Cell.{Cell}
 use Rattle.fux_grid.specs.declared.exercise.Exercise.{Exercise}
 use Rattle.fux_grid.specs.Columns.{Columns, onsets_since}
 use Rattle.fux_grid.specs.Exercises.{species_in}
+use Rattle.rule_law.specs.Bars.{begins_bar}
 use Rattle.rule_law.specs.Prefixes.{GoesOn}
-use Rattle.rule_law.specs.Rulebooks.{newly_breaks}
+use Rattle.rule_law.specs.Rulebooks.{IsAmong, newly_breaks}
 use Rattle.dissonance_rules.specs.Book.{late_row}
-use Rattle.rule_law.specs.Voices.{on_pair}
+use Rattle.rule_law.specs.Voices.{is_free, on_pair}
 use Rattle.dissonance_rules.specs.Passing.{has_ornaments, notes_needed}
 use Rattle.dissonance_rules.specs.declared.starts.LatestStarts.{LatestStarts}
 
@@ -49,6 +50,19 @@ is_told_at voices place v = (slice_index_or voices v no_starts).told == place + 
 -- the latest note of one of the voices of a set does
 abbrev pub some_tell : Exercise → List LatestStarts → ℕ → ℕ → Bool
 some_tell ex voices place = on_pair ex (λ v w. is_told_at voices place v || is_told_at voices place w)
+
+-- the latest note of a free voice starts in a column, and tells what its note at a place is
+pub record IsTelling (ex : Exercise) (voices : List LatestStarts) (last place v : ℕ) : Type 0 where
+  pub there : v < ex.voices
+  pub free : is_free ex v ≡ true
+  pub latest : (slice_index_or voices v no_starts).latest ≡ last + 1
+  pub told : (slice_index_or voices v no_starts).told ≡ place + 1
+
+-- so many places from a start on have each one from a first one on, before the column and within a
+-- bar, that is told so
+abbrev pub HasTold : Exercise → List LatestStarts → ℕ → ℕ → ℕ → ℕ → Type 0
+HasTold ex voices first last start count =
+    (v i : ℕ) → IsTelling ex voices last i v → first ≤ i → i < last → begins_bar i ≡ false → IsAmong start count i
 
 -- where the answer is no, the newest of so many columns settles no break of the rule at the place
 abbrev pub TellsUnbroken : Exercise → ℕ → ℕ → List LatestStarts → ℕ → ℕ → Bool → Type 0

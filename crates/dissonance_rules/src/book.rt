@@ -66,14 +66,19 @@ impl RuleCrate for Dissonance {
         }
     }
 
-    /// Of those of S15 and S27 the places at which the clash isn't told yet; all of the other
-    /// rules'.
+    /// Of those of S15 and S27 the places of the notes that the newest column tells of; all of the
+    /// other rules'.
     #[inline(always)]
-    fn places_left(newest: &NewestColumns, rule: u8, ex: &Exercise) -> LatePlaces {
+    fn places_left(
+        part: &[LatestStarts; 4],
+        newest: &NewestColumns,
+        rule: u8,
+        ex: &Exercise,
+    ) -> LatePlaces {
         if !is_told_later(rule) {
             return Dissonance::places_settled(rule, ex, newest.len - 1);
         }
-        passing_left(newest, rule, ex)
+        passing_left(part, newest, rule, ex)
     }
 
     fn breaks_late(

@@ -1,10 +1,11 @@
 //! What is kept of a prefix for S15 and S27: where each voice's latest notes start.
 
-ghost use Rattle.std.specs.Prelude.{◌≡◌, ◌≤◌, ◌<◌, ◌++◌, ◌∷◌, [], List, ℕ, true, length};
+ghost use Rattle.std.specs.Prelude.{◌≡◌, ◌≤◌, ◌<◌, ◌+◌, ◌++◌, ◌∷◌, [], List, ℕ, IfSome, Some, true, false, length, slice_index_or};
 ghost use Rattle.fux_grid.specs.declared.cell.Cell.{Cell as ACell};
 ghost use Rattle.fux_grid.specs.Cells.{cell_in};
 ghost use Rattle.fux_grid.specs.Columns.{Columns};
 ghost use Rattle.fux_grid.specs.Exercises.{IsValid, species_in};
+ghost use Rattle.rule_law.specs.Bars as bars;
 ghost use Rattle.rule_law.specs.RuleCrates.{KeptWith};
 ghost use Rattle.dissonance_rules.specs.Clashes.{is_told_later};
 ghost use Rattle.dissonance_rules.specs.Starts as words;
@@ -12,7 +13,7 @@ ghost use Rattle.dissonance_rules.specs.Starts.{AreStartsOf, IsStartsOf, TellsUn
 
 use crate::passing::{has_ornaments, reaches_last_bar};
 use fux_grid::{Cell, Exercise, VoiceSet, cell_of, species_of};
-use rule_law::{pair_of, starts};
+use rule_law::{begins_bar, pair_of, starts};
 
 /// Behind which columns the latest note of a voice starts, the one before it, and the note that the
 /// latest one tells of: 0 where there is none.
@@ -73,6 +74,55 @@ pub(crate) fn note_starts(voices: &mut [LatestStarts; 4], ex: &Exercise, i: usiz
     }
 }
 
+/// Behind which column the latest note of a voice starts.
+#[inline]
+fn latest_of(voices: &[LatestStarts; 4], v: u8) -> usize
+    requires { v < 4 }
+    ensures { result ≡ (slice_index_or voices.now v words.no_starts).latest }
+{
+    usize::from(voices[v as usize].latest)
+}
+
+/// Behind which column the note of a voice starts that its latest one tells of.
+#[inline]
+fn told_of(voices: &[LatestStarts; 4], v: u8) -> usize
+    requires { v < 4 }
+    ensures { result ≡ (slice_index_or voices.now v words.no_starts).told }
+{
+    usize::from(voices[v as usize].told)
+}
+
+/// The place of the note that the latest one of a voice tells of, where that one starts in the last
+/// of so many columns, and the place is one from a first one on, before this column and within a
+/// bar.
+#[inline]
+pub(crate) fn told_place(
+    voices: &[LatestStarts; 4],
+    v: u8,
+    first: usize,
+    last: usize,
+) -> Option<usize>
+    requires voice { v < 4 }
+    requires last { last < 192 }
+    ensures from { IfSome result (λ place. first ≤ place) }
+    ensures before { IfSome result (λ place. place < last) }
+    ensures told { (i : ℕ) → (slice_index_or voices.now v words.no_starts).latest ≡ last + 1
+        → (slice_index_or voices.now v words.no_starts).told ≡ i + 1 → first ≤ i → i < last
+        → bars.begins_bar i ≡ false → result ≡ Some i }
+{
+    if latest_of(voices, v) != last + 1 {
+        return None;
+    }
+    let told = told_of(voices, v);
+    if told <= first || told > last {
+        return None;
+    }
+    if begins_bar(told - 1) {
+        return None;
+    }
+    Some(told - 1)
+}
+
 /// Whether the latest note of a voice tells what its note at a place is.
 #[inline]
 fn is_told(voices: &[LatestStarts; 4], place: usize, v: u8) -> bool
@@ -80,7 +130,7 @@ fn is_told(voices: &[LatestStarts; 4], place: usize, v: u8) -> bool
     requires voice { v < 4 }
     ensures { result ≡ is_told_at voices.now place v }
 {
-    usize::from(voices[v as usize].told) == place + 1
+    told_of(voices, v) == place + 1
 }
 
 /// Whether the latest note of one of the voices of a set tells what its note at a place is.

@@ -1,105 +1,104 @@
-//! How far back the newest columns tell what a note is: S15 and S27 are settled at all places
-//! before.
+//! The places at which the newest column may settle S15 and S27: those of the notes that it tells
+//! of.
 
-ghost use Rattle.std.specs.Prelude.{◌≡◌, ◌<◌, ◌≤◌, ◌+◌, ◌-◌, ◌*◌, true, false, nat_lt, length};
-ghost use Rattle.fux_grid.specs.Columns.{Columns, cell_at};
+ghost use Rattle.std.specs.Prelude.{◌≡◌, ◌<◌, ◌≤◌, ◌+◌, ◌-◌, ℕ, false, true};
 ghost use Rattle.fux_grid.specs.Exercises.{IsValid, columns_in};
-ghost use Rattle.rule_law.specs.Newest.{AreNewestOf};
+ghost use Rattle.rule_law.specs.Bars as bars;
 ghost use Rattle.rule_law.specs.RuleCrates.{SettlesNoOther};
-ghost use Rattle.rule_law.specs.Terms as terms;
+ghost use Rattle.rule_law.specs.Rulebooks.{IsAmong};
 ghost use Rattle.dissonance_rules.specs.Book.{late_count, late_first, late_row};
-ghost use Rattle.dissonance_rules.specs.Clashes.{is_told_later, passing_rule};
-ghost use Rattle.dissonance_rules.specs.Passing as passing;
-ghost use Rattle.dissonance_rules.specs.Told.{AreAllTold, AreTold};
+ghost use Rattle.dissonance_rules.specs.Clashes.{is_told_later};
+ghost use Rattle.dissonance_rules.specs.Starts.{AreStartsOf, HasTold, IsTelling};
 
 use crate::late::passing_places;
 use crate::passing::reaches_last_bar;
-use fux_grid::{Exercise, cell_of, species_of};
-use rule_law::{LatePlaces, NewestColumns, is_free, is_quiet, starts};
+use crate::starts::{LatestStarts, told_place};
+use fux_grid::Exercise;
+use rule_law::{LatePlaces, NewestColumns, is_free, is_quiet};
 
-/// How many notes after a clash tell what it is, for a voice of a species.
-fn notes_needed(species: u8) -> usize
-    ensures value { result ≡ passing.notes_needed species }
-    ensures some { 1 ≤ result }
-{
-    if species == 3 || species == 5 { 2 } else { 1 }
-}
-
-/// Whether a voice starts a note in column `j`.
+/// Places in a row with one more, and those between.
 #[inline]
-fn starts_at(newest: &NewestColumns, ex: &Exercise, v: u8, j: usize) -> bool
-    requires { ex.now.voices ≤ 4 }
-    ensures { (s : Columns) → AreNewestOf ex.now.voices s newest.now → length s ≤ j + 25 →
-        result ≡ terms.starts (cell_at s v j) }
+fn with_place(places: LatePlaces, place: usize) -> LatePlaces
+    requires end { places.first + places.count ≤ 192 }
+    requires place { place < 192 }
+    ensures from { (first : ℕ) → first ≤ places.first → first ≤ place → first ≤ result.first }
+    ensures to { (end : ℕ) → places.first + places.count ≤ end → place < end →
+        result.first + result.count ≤ end }
+    ensures kept { (i : ℕ) → IsAmong places.first places.count i →
+        IsAmong result.first result.count i }
+    ensures new { IsAmong result.first result.count place }
 {
-    starts(cell_of(newest.at(j, usize::from(ex.voices)), v as usize))
-}
-
-/// A place up to which, from a first one on, a voice has as many later notes in the first `end`
-/// columns as tell what the note there is.
-fn told_until(newest: &NewestColumns, ex: &Exercise, v: u8, first: usize, end: usize) -> usize
-    requires voices { ex.now.voices ≤ 4 }
-    requires order { first ≤ end }
-    requires within { end ≤ newest.now.len }
-    requires near { newest.now.len ≤ first + 25 }
-    ensures from { first ≤ result }
-    ensures to { result ≤ end }
-    ensures told { (s : Columns) → AreNewestOf ex.now.voices s newest.now → AreTold ex.now s end
-        first result v }
-{
-    let mut left = notes_needed(species_of(ex, v));
-    for k in 0..end - first {
-        left -= usize::from(starts_at(newest, ex, v, end - 1 - k));
-        if left == 0 {
-            return end - 1 - k;
-        }
+    if places.count == 0 {
+        return LatePlaces {
+            first: place,
+            count: 1,
+        };
     }
-    first
+    let first = places.first.min(place);
+    let end = (places.first + places.count).max(place + 1);
+    LatePlaces {
+        first,
+        count: end - first,
+    }
 }
 
-/// The same for each free voice.
-fn all_told_until(newest: &NewestColumns, ex: &Exercise, first: usize, end: usize) -> usize
-    requires voices { ex.now.voices ≤ 4 }
-    requires order { first ≤ end }
-    requires within { end ≤ newest.now.len }
-    requires near { newest.now.len ≤ first + 25 }
-    ensures from { first ≤ result }
-    ensures to { result ≤ end }
-    ensures told { (s : Columns) → AreNewestOf ex.now.voices s newest.now → AreAllTold ex.now s end
-        first result }
+/// Places in a row with that of the note that a voice tells of, where it is free and tells of one
+/// from a first place on.
+#[inline]
+fn with_told(
+    places: LatePlaces,
+    voices: &[LatestStarts; 4],
+    ex: &Exercise,
+    v: u8,
+    first: usize,
+    last: usize,
+) -> LatePlaces
+    requires voice { v < 4 }
+    requires last { last < 192 }
+    requires end { places.first + places.count ≤ last }
+    ensures from { first ≤ places.first → first ≤ result.first }
+    ensures to { result.first + result.count ≤ last }
+    ensures kept { (i : ℕ) → IsAmong places.first places.count i →
+        IsAmong result.first result.count i }
+    ensures told { (i : ℕ) → IsTelling ex.now voices.now last i v → first ≤ i → i < last
+        → bars.begins_bar i ≡ false → IsAmong result.first result.count i }
 {
-    let mut told = end;
+    if !is_free(ex, v) {
+        return places;
+    }
+    match told_place(voices, v, first, last) {
+        Some(place) => with_place(places, place),
+        None => places,
+    }
+}
+
+/// The places from a first one on, before the last of so many columns and within bars, of the notes
+/// of free voices that this column tells of, and those between.
+fn told_places(voices: &[LatestStarts; 4], ex: &Exercise, first: usize, last: usize) -> LatePlaces
+    requires voices { ex.now.voices ≤ 4 }
+    requires order { first ≤ last }
+    requires last { last < 192 }
+    ensures from { first ≤ result.first }
+    ensures to { result.first + result.count ≤ last }
+    ensures told { HasTold ex.now voices.now first last result.first result.count }
+{
+    let mut places = LatePlaces { first, count: 0 };
     for v in 0..ex.voices {
-        if is_free(ex, v) {
-            told = told.min(told_until(newest, ex, v, first, end));
-        }
+        places = with_told(places, voices, ex, v, first, last);
     }
-    told
+    places
 }
 
-/// 1 where the newest of so many columns may settle a break of S15 or S27 at its own place, else 0:
-/// before the last bar begins it settles none of S15 there.
-#[inline]
-fn own_places(rule: u8, ex: &Exercise, len: usize) -> usize
-    requires valid { IsValid ex.now }
-    ensures few { result ≤ 1 }
-    ensures passing { result ≡ 0 → rule ≡ passing_rule }
-    ensures early { result ≡ 0 → nat_lt (8 * (ex.now.bars - 1)) len ≡ false }
-{
-    if rule != 15 {
-        return 1;
-    }
-    if reaches_last_bar(ex, len) {
-        return 1;
-    }
-    0
-}
-
-/// Those of the places of S15 or S27 at which, as the newest columns tell, the newest one may
-/// settle a break: none where it is quiet, and its own place only where it may settle it at once.
-/// How far back notes tell it is looked for where there are many places.
+/// Those of the places of S15 or S27 at which the newest column may settle a break. Before the last
+/// bar begins they are those of the notes that it tells of; in the last bar all of them, and none
+/// where the column is quiet.
 #[inline(always)]
-pub(crate) fn passing_left(newest: &NewestColumns, rule: u8, ex: &Exercise) -> LatePlaces
+pub(crate) fn passing_left(
+    voices: &[LatestStarts; 4],
+    newest: &NewestColumns,
+    rule: u8,
+    ex: &Exercise,
+) -> LatePlaces
     requires valid { IsValid ex.now }
     requires begun { 0 < newest.now.len }
     requires room { newest.now.len ≤ columns_in ex.now }
@@ -107,12 +106,16 @@ pub(crate) fn passing_left(newest: &NewestColumns, rule: u8, ex: &Exercise) -> L
     ensures from { late_first rule ex.now (newest.now.len - 1) ≤ result.first }
     ensures to { result.first + result.count ≤ late_first rule ex.now (newest.now.len - 1)
         + late_count rule ex.now (newest.now.len - 1) }
-    ensures left { SettlesNoOther (late_row rule) ex.now newest.now result.first result.count }
+    ensures left { SettlesNoOther (AreStartsOf ex.now) (late_row rule) ex.now voices.now newest.now
+        result.first result.count }
 {
     let last = newest.len - 1;
     let places = passing_places(rule, ex, last);
     if places.count == 0 {
         return places;
+    }
+    if !reaches_last_bar(ex, newest.len) {
+        return told_places(voices, ex, places.first, last);
     }
     if is_quiet(last, newest.at(last, ex.voices as usize)) {
         return LatePlaces {
@@ -120,16 +123,5 @@ pub(crate) fn passing_left(newest: &NewestColumns, rule: u8, ex: &Exercise) -> L
             count: 0,
         };
     }
-    let own = own_places(rule, ex, newest.len);
-    if places.count < 10 {
-        return LatePlaces {
-            first: places.first,
-            count: places.count - 1 + own,
-        };
-    }
-    let first = all_told_until(newest, ex, places.first, last);
-    LatePlaces {
-        first,
-        count: last - first + own,
-    }
+    places
 }

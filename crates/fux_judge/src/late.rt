@@ -45,7 +45,8 @@ fn places_of(rule: u8, ex: &Exercise, next: &State) -> LatePlaces
     places_at(rule, ex, next.newest.len - 1)
 }
 
-/// Those of these places that are left once the newest columns are looked at, as its crate says.
+/// Those of these places that are left once what is kept and the newest columns are looked at, as
+/// its crate says.
 #[inline(always)]
 #[tactic(auto, unfolding(crate::specs::Rules::rule_at))]
 fn places_left(rule: u8, ex: &Exercise, next: &State) -> LatePlaces
@@ -58,7 +59,7 @@ fn places_left(rule: u8, ex: &Exercise, next: &State) -> LatePlaces
     ensures within { result.first + result.count ≤ next.now.newest.len }
     ensures left { SettlesAmong rule ex.now next.now result.first result.count }
 {
-    AllRules::places_left(&next.newest, rule, ex)
+    AllRules::places_left(&next.past.parts, &next.newest, rule, ex)
 }
 
 /// Whether the newest column settles a break of a late rule, at one of its places, as its crate

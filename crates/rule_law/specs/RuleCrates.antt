@@ -34,9 +34,11 @@ TellsBreakBy is_part it ex voices part kept place told =
     → told ≡ newly_breaks it ex voices p col place
 
 -- of a rule's places it settles breaks at none but so many from a first one on
-abbrev pub SettlesNoOther : RuleRow → Exercise → NewestColumns → ℕ → ℕ → Type 0
-SettlesNoOther it ex kept first count =
-    (p : Columns) (col : List Cell) → AreNewestOf ex.voices (p ++ col ∷ []) kept → GoesOn ex p (col ∷ [])
+abbrev pub SettlesNoOther : {P : Type 0} → (Columns → P → Type 0) → RuleRow → Exercise → P → NewestColumns → ℕ → ℕ
+    → Type 0
+SettlesNoOther is_part it ex part kept first count =
+    (p : Columns) (col : List Cell) → is_part (p ++ col ∷ []) part
+    → AreNewestOf ex.voices (p ++ col ∷ []) kept → GoesOn ex p (col ∷ [])
     → (voices i : ℕ) → IsAmong (it.first ex (length p)) (it.count ex (length p)) i
     → newly_breaks it ex voices p col i ≡ true → IsAmong first count i
 

@@ -66,9 +66,9 @@ impl<A: RuleCrate> RuleCrate for Alone<A> {
     }
 
     #[inline(always)]
-    fn places_left(newest: &NewestColumns, rule: u8, ex: &Exercise) -> LatePlaces {
+    fn places_left(part: &A::Part, newest: &NewestColumns, rule: u8, ex: &Exercise) -> LatePlaces {
         if A::has_rule(rule) {
-            A::places_left(newest, rule, ex)
+            A::places_left(part, newest, rule, ex)
         } else {
             LatePlaces { first: 0, count: 0 }
         }

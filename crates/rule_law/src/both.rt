@@ -81,11 +81,16 @@ impl<A: RuleCrate, B: RuleCrate> RuleCrate for Both<A, B> {
     }
 
     #[inline(always)]
-    fn places_left(newest: &NewestColumns, rule: u8, ex: &Exercise) -> LatePlaces {
+    fn places_left(
+        part: &Parts<A::Part, B::Part>,
+        newest: &NewestColumns,
+        rule: u8,
+        ex: &Exercise,
+    ) -> LatePlaces {
         if A::has_rule(rule) {
-            A::places_left(newest, rule, ex)
+            A::places_left(&part.first, newest, rule, ex)
         } else {
-            B::places_left(newest, rule, ex)
+            B::places_left(&part.second, newest, rule, ex)
         }
     }
 

@@ -66,9 +66,9 @@ pub trait RuleCrate {
             i }
         ensures few { result.count ≤ 24 };
 
-    /// Those of the newest column's places at which, as the newest columns tell, it may settle a
-    /// break of a late rule.
-    fn places_left(newest: &NewestColumns, rule: u8, ex: &Exercise) -> LatePlaces
+    /// Those of the newest column's places at which, as what is kept and the newest columns tell,
+    /// it may settle a break of a late rule.
+    fn places_left(part: &Self::Part, newest: &NewestColumns, rule: u8, ex: &Exercise) -> LatePlaces
         requires valid { IsValid ex.now }
         requires begun { 0 < newest.now.len }
         requires room { newest.now.len ≤ columns_in ex.now }
@@ -77,8 +77,8 @@ pub trait RuleCrate {
         ensures to { (book.rule rule).late ≡ true → result.first + result.count
             ≤ (book.rule rule).first ex.now (newest.now.len - 1) + (book.rule rule).count ex.now
             (newest.now.len - 1) }
-        ensures left { (book.rule rule).late ≡ true →
-            SettlesNoOther (book.rule rule) ex.now newest.now result.first result.count }
+        ensures left { (book.rule rule).late ≡ true → SettlesNoOther (is_part ex.now)
+            (book.rule rule) ex.now part.now newest.now result.first result.count }
     {
         Self::places_settled(rule, ex, newest.len - 1)
     }
