@@ -193,11 +193,8 @@ module _ (n : ℕ) (ex : Exercise) (p : List (List Cell)) (col : List Cell) (i :
     abbrev there : Bool
     there = reading_of (clash_row n ex voices) (p ++ col ∷ []) i
 
-    as_late : Breaks ≡ (newly (settled_by (clash_enough n ex voices)) p col i && there)
+    pub as_late : Breaks ≡ newly_breaks (late_row n) ex voices p col i
     as_late = ap (λ (r : RuleRow). newly_breaks r ex voices p col i) (row_is n late)
-
-    pub unbroken : newly_breaks (late_row n) ex voices p col i ≡ false → false ≡ Breaks
-    unbroken h = sym (ap (λ (r : RuleRow). newly_breaks r ex voices p col i) (row_is n late) ∙ h)
 
     -- where the newest column settles it there, it tells what stands there
     pub broken_as : newly (settled_by (clash_enough n ex voices)) p col i ≡ true → there ≡ Breaks

@@ -34,7 +34,7 @@ use Rattle.dissonance_rules.specs.Book.{late_row}
 use Rattle.dissonance_rules.specs.Clashes.{clash_enough, clash_row, excuse_rule, is_told_later, newly_passing, passing_enough, passing_rule}
 use Rattle.dissonance_rules.specs.Mixed.{clash_anew, clash_unexcused, is_excused}
 use Rattle.dissonance_rules.specs.Passing.{clashes_badly, has_notes_after, has_ornaments, is_good_in, is_open_clash, notes_needed, reaches_last_bar, starts_in_clash}
-use Rattle.dissonance_rules.specs.Starts.{AreStartsOf, IsNthStart, IsStartsOf, IsTelling, is_told_at, next_told, no_starts, some_tell, starts_from}
+use Rattle.dissonance_rules.specs.Starts.{AreStartsOf, IsNthStart, IsStartsOf, IsTelling, is_told_at, next_told, no_starts, starts_from}
 use Rattle.dissonance_rules.specs.declared.starts.LatestStarts.{LatestStarts}
 
 -- ---- notes from a column on
@@ -55,17 +55,17 @@ first_cell k (Start p) cells h =
     omega (arith, same)
 
 module _ (p : List (List Cell)) (v : ℕ) where
-  from-past : (i : ℕ) → length p ≤ i → starts_from p v i ≡ 0
+  pub from-past : (i : ℕ) → length p ≤ i → starts_from p v i ≡ 0
   from-past i h = ap (λ cols. length (onsets_from i (line v cols))) (drop_all i p h)
 
-  from-start : (i : ℕ) → i < length p → starts (cell_in (slice_index_or p i []) v) ≡ true
+  pub from-start : (i : ℕ) → i < length p → starts (cell_in (slice_index_or p i []) v) ≡ true
       → starts_from p v i ≡ starts_from p v (i + 1) + 1
   from-start i h e =
       ap (λ cols. length (onsets_from i (line v cols))) (drop_more p i [] h)
       ∙ first_cell i (cell_in (slice_index_or p i []) v) (line v (drop (i + 1) p)) e
 
   module _ (col : List Cell) where
-    from-grown : (i : ℕ) → i ≤ length p
+    pub from-grown : (i : ℕ) → i ≤ length p
         → starts_from (p ++ col ∷ []) v i ≡ starts_from p v i + from_bool (starts (cell_in col v))
     from-grown i h =
         ap (λ cols. length (onsets_from i (line v cols))) (drop-append-le i p (col ∷ []) h)
@@ -149,7 +149,7 @@ module _ (p : List (List Cell)) (col : List Cell) (v : ℕ) where
 
 -- ---- enough notes
 
-enough : (species : ℕ) (notes : List Onset)
+pub enough : (species : ℕ) (notes : List Onset)
     → (if has_ornaments species then is_some (second_of notes) else is_some (first_of notes)) ≡ true
     → notes_needed species ≤ length notes
 enough species = at (has_ornaments species)
@@ -162,7 +162,7 @@ enough species = at (has_ornaments species)
     at false [] h = cc
     at false (x ∷ notes) h = omega arith
 
-too_few : (species : ℕ) (notes : List Onset)
+pub too_few : (species : ℕ) (notes : List Onset)
     → (if has_ornaments species then is_some (second_of notes) else is_some (first_of notes)) ≡ false
     → length notes < notes_needed species
 too_few species = at (has_ornaments species)
@@ -197,7 +197,7 @@ closed_parts false notes last f g h = cc
 -- ---- what the newest column settles
 
 -- a voice that starts a note is there
-is_there : (ex : Exercise) (p : List (List Cell)) (col : List Cell) (i : ℕ) → GoesOn ex p (col ∷ []) → i < length p
+pub is_there : (ex : Exercise) (p : List (List Cell)) (col : List Cell) (i : ℕ) → GoesOn ex p (col ∷ []) → i < length p
     → (v : ℕ) → starts (cell_in (slice_index_or p i []) v) ≡ true → v < ex.voices
 is_there ex p col i on here v h =
     elim (cases_lt v ex.voices) [
@@ -239,8 +239,29 @@ pub pair_holds : (ex : Exercise) (test : ℕ → ℕ → Bool) (voices v w : ℕ
 pair_holds ex test voices v w e there =
     sym (ap (holds_of_pair ex test) e) ∙ ap (λ b. b && test v w) (lt-ltb w ex.voices there)
 
--- where a column more has enough notes and one less had too few, the latest note starts in it
-newest_start : (need : ℕ) (b : Bool) (last behind then_from now_from last_from end_from : ℕ) → need ≤ now_from
+-- where a column more has enough notes and one less had too few, the latest one tells of the note at
+-- the place
+pub exactly : (i need : ℕ) (b : Bool) (behind then_from now_from own_from : ℕ) → need ≤ now_from → then_from < need
+    → now_from ≡ then_from + from_bool b → own_from ≡ now_from + 1
+    → (i < behind → need + 1 ≤ own_from) → (behind ≤ i → own_from < need + 1)
+    → (i + 1 < behind → need + 1 ≤ now_from) → (behind ≤ i + 1 → now_from < need + 1)
+    → behind ≡ i + 1
+exactly i need b behind then_from now_from own_from h k e f m1 l1 m2 l2 =
+    elim (cases_lt i behind) [
+      | inl less ↦
+          elim (cases_lt (i + 1) behind) [
+            | inl beyond ↦ absurd (omega (arith, m2 beyond, k, e, one b))
+            | inr upto ↦ omega (arith, less, upto)
+          ]
+      | inr more ↦ absurd (omega (arith, l1 more, h, f))
+    ]
+  where
+    one : (b : Bool) → from_bool b ≤ 1
+    one true = omega arith
+    one false = omega arith
+
+-- and it starts in the newest column
+pub newest_start : (need : ℕ) (b : Bool) (last behind then_from now_from last_from end_from : ℕ) → need ≤ now_from
     → then_from < need → now_from ≡ then_from + from_bool b → last_from ≡ from_bool b → end_from ≡ 0
     → (behind ≤ last → last_from < 1) → (last + 1 < behind → 1 ≤ end_from) → behind ≡ last + 1
 newest_start need b last behind then_from now_from last_from end_from h k e f g few many =
@@ -316,35 +337,16 @@ module _ (ex : Exercise) (voices : ℕ) (p : List (List Cell)) (col : List Cell)
           free = free;
           latest = newest_start (notes_needed (species_in ex v)) (starts (cell_in col v)) (length p) _ _ _ _ _ now before
               grown_by last_from end_from (mine.latest.few (length p)) (mine.latest.many (length p + 1));
-          told = exactly (notes_needed (species_in ex v)) (starts (cell_in col v)) _ _ _ _ now before grown_by above
+          told = exactly i (notes_needed (species_in ex v)) (starts (cell_in col v)) _ _ _ _ now before grown_by above
               (nth.many i) (nth.few i) (nth.many (i + 1)) (nth.few (i + 1));
         }
-      where
-        exactly : (need : ℕ) (b : Bool) (behind then_from now_from own_from : ℕ) → need ≤ now_from → then_from < need
-            → now_from ≡ then_from + from_bool b → own_from ≡ now_from + 1
-            → (i < behind → need + 1 ≤ own_from) → (behind ≤ i → own_from < need + 1)
-            → (i + 1 < behind → need + 1 ≤ now_from) → (behind ≤ i + 1 → now_from < need + 1)
-            → behind ≡ i + 1
-        exactly need b behind then_from now_from own_from h k e f m1 l1 m2 l2 =
-            elim (cases_lt i behind) [
-              | inl less ↦
-                  elim (cases_lt (i + 1) behind) [
-                    | inl beyond ↦ absurd (omega (arith, m2 beyond, k, e, one b))
-                    | inr upto ↦ omega (arith, less, upto)
-                  ]
-              | inr more ↦ absurd (omega (arith, l1 more, h, f))
-            ]
-          where
-            one : (b : Bool) → from_bool b ≤ 1
-            one true = omega arith
-            one false = omega arith
 
     tells : (v w : ℕ) → is_free ex v ≡ true → is_open_clash ex i (slice_index_or p i []) (drop (i + 1) p) v w ≡ true
         → is_open_clash ex i (slice_index_or longer i []) (drop (i + 1) longer) v w ≡ false → Told v ≡ true
     tells v w free opens closed =
         eq-eqb ((slice_index_or kept v no_starts).told) (i + 1) (telling v w free opens closed).told
 
-    pub untold_unsettled : some_tell ex kept i voices ≡ false → newly_passing ex voices p col i ≡ false
+    pub untold_unsettled : on_pair ex (λ v w. Told v || Told w) voices ≡ false → newly_passing ex voices p col i ≡ false
     untold_unsettled none =
         elim (cases_Bool (newly_passing ex voices p col i)) [
           | inl e ↦

@@ -1,5 +1,6 @@
 pub mod BookLaws
 pub mod ClashLaws
+pub mod Closings
 pub mod EitherWay
 pub mod LatePlaces
 pub mod LateReadings

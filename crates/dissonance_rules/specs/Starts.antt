@@ -1,14 +1,18 @@
 -- What is kept of a prefix for S15 and S27: where each voice's latest notes start.
-use Rattle.std.specs.Prelude.{◌≡◌, ℕ, ◌+◌, ◌<◌, ◌≤◌, ◌==◌, ◌||◌, Bool, true, false, List, [], ◌∷◌, ◌++◌, Some, length, slice_get, slice_index_or, if◌then◌else◌}
+use Rattle.std.specs.Prelude.{◌≡◌, ℕ, ◌+◌, ◌-◌, ◌<◌, ◌≤◌, ◌==◌, ◌&&◌, ◌||◌, Bool, true, false, not, nat_le, List, [], ◌∷◌, ◌++◌, Some, length, slice_get, slice_index_or, if◌then◌else◌}
 use Rattle.fux_grid.specs.declared.cell.Cell.{Cell}
 use Rattle.fux_grid.specs.declared.exercise.Exercise.{Exercise}
+use Rattle.fux_grid.specs.Cells.{cell_in}
 use Rattle.fux_grid.specs.Columns.{Columns, onsets_since}
 use Rattle.fux_grid.specs.Exercises.{species_in}
+use Rattle.rule_law.specs.Around.{AreKeptFrom}
 use Rattle.rule_law.specs.Bars.{begins_bar}
 use Rattle.rule_law.specs.Prefixes.{GoesOn}
 use Rattle.rule_law.specs.Rulebooks.{IsAmong, newly_breaks}
+use Rattle.rule_law.specs.Terms.{starts}
+use Rattle.rule_law.specs.Voices.{is_free, pair_of}
+use Rattle.rule_law.specs.declared.newest.NewestColumns.{NewestColumns}
 use Rattle.dissonance_rules.specs.Book.{late_row}
-use Rattle.rule_law.specs.Voices.{is_free, on_pair}
 use Rattle.dissonance_rules.specs.Passing.{has_ornaments, notes_needed}
 use Rattle.dissonance_rules.specs.declared.starts.LatestStarts.{LatestStarts}
 
@@ -47,10 +51,6 @@ next_told species kept = if has_ornaments species then kept.second else kept.lat
 abbrev pub is_told_at : List LatestStarts → ℕ → ℕ → Bool
 is_told_at voices place v = (slice_index_or voices v no_starts).told == place + 1
 
--- the latest note of one of the voices of a set does
-abbrev pub some_tell : Exercise → List LatestStarts → ℕ → ℕ → Bool
-some_tell ex voices place = on_pair ex (λ v w. is_told_at voices place v || is_told_at voices place w)
-
 -- the latest note of a free voice starts in a column, and tells what its note at a place is
 pub record IsTelling (ex : Exercise) (voices : List LatestStarts) (last place v : ℕ) : Type 0 where
   pub there : v < ex.voices
@@ -64,8 +64,37 @@ abbrev pub HasTold : Exercise → List LatestStarts → ℕ → ℕ → ℕ → 
 HasTold ex voices first last start count =
     (v i : ℕ) → IsTelling ex voices last i v → first ≤ i → i < last → begins_bar i ≡ false → IsAmong start count i
 
--- where the answer is no, the newest of so many columns settles no break of the rule at the place
-abbrev pub TellsUnbroken : Exercise → ℕ → ℕ → List LatestStarts → ℕ → ℕ → Bool → Type 0
-TellsUnbroken ex rule voices kept len place told =
-    (p : Columns) (col : List Cell) → AreStartsOf ex (p ++ col ∷ []) kept → GoesOn ex p (col ∷ [])
-    → len ≡ length (p ++ col ∷ []) → told ≡ false → newly_breaks (late_row rule) ex voices p col place ≡ false
+-- a free voice starts a note in a column
+abbrev pub starts_free : Exercise → List Cell → ℕ → Bool
+starts_free ex now v = is_free ex v && starts (cell_in now v)
+
+-- it starts one at a place, and the columns don't tell yet what that is
+abbrev pub is_untold : Exercise → List LatestStarts → List Cell → ℕ → ℕ → Bool
+is_untold ex voices now place v = starts_free ex now v && nat_le (slice_index_or voices v no_starts).told place
+
+-- it starts one there, of which its latest note tells, which starts in the last of so many columns
+abbrev pub is_told_now : Exercise → List LatestStarts → List Cell → ℕ → ℕ → ℕ → Bool
+is_told_now ex voices now place len v =
+    starts_free ex now v
+    && (((slice_index_or voices v no_starts).told == place + 1)
+    && ((slice_index_or voices v no_starts).latest == len))
+
+-- where two voices clash at a place, the last of so many columns settles it: it tells of a note
+-- there, and none is untold
+abbrev pub closes_pair : Exercise → List LatestStarts → List Cell → ℕ → ℕ → ℕ → ℕ → Bool
+closes_pair ex voices now place len v w =
+    not (is_untold ex voices now place v || is_untold ex voices now place w)
+    && (is_told_now ex voices now place len v || is_told_now ex voices now place len w)
+
+-- for a set of voices: whether the last column settles a break of the rule at the place, known by
+-- the newest columns and by where the latest notes start
+abbrev pub TellsTold : Exercise → ℕ → ℕ → List LatestStarts → NewestColumns → ℕ → Bool → Type 0
+TellsTold ex rule voices kept newest place told =
+    (p : Columns) (col : List Cell) → AreStartsOf ex (p ++ col ∷ []) kept
+    → AreKeptFrom ex newest (p ++ col ∷ []) (place - 3) → GoesOn ex p (col ∷ [])
+    → told ≡ newly_breaks (late_row rule) ex voices p col place
+
+-- the same for each set of these two voices
+abbrev pub TellsPair : Exercise → ℕ → List LatestStarts → NewestColumns → ℕ → ℕ → ℕ → Bool → Type 0
+TellsPair ex rule kept newest place v w told =
+    (voices : ℕ) → Some (v, w) ≡ pair_of voices → TellsTold ex rule voices kept newest place told

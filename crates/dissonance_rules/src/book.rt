@@ -5,10 +5,12 @@ ghost use Rattle.dissonance_rules.specs.Book as books;
 ghost use Rattle.dissonance_rules.specs.Starts.{AreStartsOf};
 
 use crate::clashes::{breaks_clash, is_clash_settled};
+use crate::closing::breaks_told;
 use crate::dissonance::Dissonance;
 use crate::late::{is_late, is_told_later, passing_places, settles_passing};
+use crate::passing::reaches_last_bar;
 use crate::rows::{breaks, cost};
-use crate::starts::{LatestStarts, may_break, no_starts, note_starts};
+use crate::starts::{LatestStarts, no_starts, note_starts};
 use crate::told::passing_left;
 use fux_grid::{Cell, Exercise, Score, VoiceSet, is_mixed, slot_of};
 use rule_law::{Form, LatePlaces, LateQuestion, Latest, NewestColumns, RuleCrate, begins_bar};
@@ -95,8 +97,8 @@ impl RuleCrate for Dissonance {
         if !is_told_later(rule) {
             return breaks_clash(newest, rule, ex, place, voices);
         }
-        if !may_break(part, newest.len, rule, ex, voices, place) {
-            return false;
+        if !reaches_last_bar(ex, newest.len) {
+            return breaks_told(part, newest, rule, ex, place, voices);
         }
         if !settles_passing(newest, ex, voices, place) {
             return false;

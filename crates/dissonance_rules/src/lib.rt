@@ -4,6 +4,7 @@
 mod apart;
 mod book;
 mod clashes;
+mod closing;
 mod dissonance;
 mod late;
 mod ligatures;

@@ -1,19 +1,18 @@
 //! What is kept of a prefix for S15 and S27: where each voice's latest notes start.
 
-ghost use Rattle.std.specs.Prelude.{◌≡◌, ◌≤◌, ◌<◌, ◌+◌, ◌++◌, ◌∷◌, [], List, ℕ, IfSome, Some, true, false, length, slice_index_or};
+ghost use Rattle.std.specs.Prelude.{◌≡◌, ◌≤◌, ◌<◌, ◌+◌, ◌++◌, ◌∷◌, ◌||◌, [], List, ℕ, IfSome, Some, false, length, slice_index_or};
 ghost use Rattle.fux_grid.specs.declared.cell.Cell.{Cell as ACell};
 ghost use Rattle.fux_grid.specs.Cells.{cell_in};
 ghost use Rattle.fux_grid.specs.Columns.{Columns};
-ghost use Rattle.fux_grid.specs.Exercises.{IsValid, species_in};
+ghost use Rattle.fux_grid.specs.Exercises.{species_in};
 ghost use Rattle.rule_law.specs.Bars as bars;
 ghost use Rattle.rule_law.specs.RuleCrates.{KeptWith};
-ghost use Rattle.dissonance_rules.specs.Clashes.{is_told_later};
 ghost use Rattle.dissonance_rules.specs.Starts as words;
-ghost use Rattle.dissonance_rules.specs.Starts.{AreStartsOf, IsStartsOf, TellsUnbroken, is_told_at};
+ghost use Rattle.dissonance_rules.specs.Starts.{AreStartsOf, IsStartsOf, is_told_at};
 
-use crate::passing::{has_ornaments, reaches_last_bar};
-use fux_grid::{Cell, Exercise, VoiceSet, cell_of, species_of};
-use rule_law::{begins_bar, pair_of, starts};
+use crate::passing::has_ornaments;
+use fux_grid::{Cell, Exercise, cell_of, species_of};
+use rule_law::{begins_bar, is_free, starts};
 
 /// Behind which columns the latest note of a voice starts, the one before it, and the note that the
 /// latest one tells of: 0 where there is none.
@@ -133,45 +132,78 @@ fn is_told(voices: &[LatestStarts; 4], place: usize, v: u8) -> bool
     told_of(voices, v) == place + 1
 }
 
-/// Whether the latest note of one of the voices of a set tells what its note at a place is.
+/// Whether the latest note of one of two voices tells what its note at a place is.
 #[inline]
-fn some_tell(voices: &[LatestStarts; 4], ex: &Exercise, place: usize, set: VoiceSet) -> bool
-    requires voices { ex.now.voices ≤ 4 }
+pub(crate) fn one_tells(voices: &[LatestStarts; 4], place: usize, v: u8, w: u8) -> bool
     requires place { place < 192 }
-    ensures { result ≡ words.some_tell ex.now voices.now place set.bits }
+    requires first { v < 4 }
+    requires second { w < 4 }
+    ensures { result ≡ (is_told_at voices.now place v || is_told_at voices.now place w) }
 {
-    let Some((v, w)) = pair_of(set) else {
-        return false;
-    };
-    if w >= ex.voices {
-        return false;
-    }
     is_told(voices, place, v) || is_told(voices, place, w)
 }
 
-/// Whether the newest of so many columns may settle a break of S15 or S27 at a place. Before the
-/// last bar begins it does where a voice starts the note in it that tells what its note at the place
-/// is; and S27 may be broken at once.
+/// Whether a free voice starts a note in a column.
 #[inline]
-pub(crate) fn may_break(
-    voices: &[LatestStarts; 4],
-    len: usize,
-    rule: u8,
-    ex: &Exercise,
-    set: VoiceSet,
-    place: usize,
-) -> bool
-    requires valid { IsValid ex.now }
-    requires place { place < len }
-    requires room { len ≤ 192 }
-    requires told { is_told_later rule ≡ true }
-    ensures { TellsUnbroken ex.now rule set.bits voices.now len place result }
+fn starts_free(ex: &Exercise, now: &[Cell], v: u8) -> bool
+    ensures { result ≡ words.starts_free ex.now now.now v }
 {
-    if reaches_last_bar(ex, len) {
-        return true;
+    is_free(ex, v) && starts(cell_of(now, v as usize))
+}
+
+/// Whether a free voice starts a note at a place, whose cells these are, and the columns don't tell
+/// yet what it is.
+#[inline]
+fn is_untold(voices: &[LatestStarts; 4], ex: &Exercise, now: &[Cell], place: usize, v: u8) -> bool
+    requires { v < 4 }
+    ensures { result ≡ words.is_untold ex.now voices.now now.now place v }
+{
+    if !starts_free(ex, now, v) {
+        return false;
     }
-    if place + 1 == len {
-        return rule == 27;
+    told_of(voices, v) <= place
+}
+
+/// Whether it starts one there, of which its latest note tells, which starts in the last of so many
+/// columns.
+#[inline]
+fn is_told_now(
+    voices: &[LatestStarts; 4],
+    ex: &Exercise,
+    now: &[Cell],
+    place: usize,
+    len: usize,
+    v: u8,
+) -> bool
+    requires place { place < 192 }
+    requires voice { v < 4 }
+    ensures { result ≡ words.is_told_now ex.now voices.now now.now place len v }
+{
+    if !starts_free(ex, now, v) {
+        return false;
     }
-    some_tell(voices, ex, place, set)
+    told_of(voices, v) == place + 1 && latest_of(voices, v) == len
+}
+
+/// Whether the last of so many columns settles that two voices clash at a place, whose cells these
+/// are: it tells of a note there, and none is untold.
+#[inline]
+pub(crate) fn closes_pair(
+    voices: &[LatestStarts; 4],
+    ex: &Exercise,
+    now: &[Cell],
+    place: usize,
+    len: usize,
+    v: u8,
+    w: u8,
+) -> bool
+    requires place { place < 192 }
+    requires first { v < 4 }
+    requires second { w < 4 }
+    ensures { result ≡ words.closes_pair ex.now voices.now now.now place len v w }
+{
+    if is_untold(voices, ex, now, place, v) || is_untold(voices, ex, now, place, w) {
+        return false;
+    }
+    is_told_now(voices, ex, now, place, len, v) || is_told_now(voices, ex, now, place, len, w)
 }

@@ -1,6 +1,6 @@
 use Rattle.std.specs.Prelude.{◌-◌, ◌∷◌, ◌++◌, []}
 use Rattle.std.proofs.Common.{sym, ◌∙◌, arith}
-use Rattle.dissonance_rules.proofs.LateReadings.{broken_as, kept_around, newly-told, settled_at_place, unbroken, unsettled}
+use Rattle.dissonance_rules.proofs.LateReadings.{as_late, broken_as, kept_around, newly-told, settled_at_place, unsettled}
 use Rattle.dissonance_rules.proofs.book.DissonanceRuleCrate.breaks_late.Goals as goal
 
 pub returns-then-not-is_told_later : goal.returns-then-not-is_told_later
@@ -12,10 +12,11 @@ returns-then-not-is_told_later c = λ late p col part newest on among.
     (settled_at_place c.args.rule c.args.ex.now p col c.args.place on c.args.voices.bits late
     (sym c.is_told_later.ensures ∙ c.if-not-is_told_later.true) among)
 
-pub returns-then-not-may_break : goal.returns-then-not-may_break
-returns-then-not-may_break c = λ late p col part newest on among.
-    unbroken c.args.rule c.args.ex.now p col c.args.place on c.args.voices.bits late
-    (c.may_break.ensures p col part on newest.count c.if-not-may_break.true)
+pub returns-then-not-reaches_last_bar : goal.returns-then-not-reaches_last_bar
+returns-then-not-reaches_last_bar c = λ late p col part newest on among.
+    c.breaks_told.ensures p col part
+    (kept_around c.args.rule c.args.ex.now p col c.args.place on c.args.newest.now newest late among) on
+    ∙ sym (as_late c.args.rule c.args.ex.now p col c.args.place on c.args.voices.bits late)
 
 pub returns-then-not-settles_passing : goal.returns-then-not-settles_passing
 returns-then-not-settles_passing c = λ late p col part newest on among.
