@@ -1,13 +1,12 @@
 -- Before the last bar begins: what the newest column settles of S15 and S27 for two voices, by where
 -- their latest notes start (`closes-is`), and that it is a break for them (`closed-breaks`).
-use Rattle.std.specs.Prelude.{◌≡◌, ℕ, ◌+◌, ◌-◌, ◌*◌, ◌<◌, ◌≤◌, ◌==◌, Bool, true, false, not, ◌&&◌, ◌||◌, nat_le, nat_lt, List, [], ◌∷◌, ◌++◌, is_some, drop, length, slice_index_or, if◌then◌else◌, refl, Some, None}
+use Rattle.std.specs.Prelude.{◌≡◌, ℕ, ◌+◌, ◌-◌, ◌*◌, ◌<◌, ◌≤◌, ◌==◌, Bool, true, false, not, ◌&&◌, ◌||◌, nat_le, nat_lt, List, [], ◌∷◌, ◌++◌, drop, length, slice_index_or, if◌then◌else◌, refl, Some, None}
 use Rattle.std.specs.Int.{from_bool}
 use Rattle.std.proofs.Common.{ap, sym, ◌∙◌, inl, inr, arith}
 use Rattle.std.proofs.Math.ListN.{get_or-append}
 use Rattle.std.proofs.lemmas.Bool.{and_from, and_left, and_parts, and_right, cases_Bool, cases_eq, cases_lt, eq-eqb, le-leb, le-ltb, lt-leb, lt-ltb, ltb-false, ne_eqb, not-false}
 use Rattle.std.proofs.lemmas.List.{length-append, length-drop}
 use Rattle.fux_grid.specs.declared.cell.Cell.{Cell}
-use Rattle.fux_grid.specs.declared.cell.Onset.{Onset}
 use Rattle.fux_grid.specs.declared.exercise.Exercise.{Exercise}
 use Rattle.fux_grid.specs.Cells.{cell_in, onsets_from}
 use Rattle.fux_grid.specs.Columns.{earlier, line}
@@ -25,7 +24,7 @@ use Rattle.rule_law.specs.Ways.{holds_some_way, on_some_way}
 use Rattle.dissonance_rules.specs.Book.{late_row}
 use Rattle.dissonance_rules.specs.Clashes.{clash_enough, clash_row, clash_rule, is_told_later, newly_passing, pair_rule, passing_enough}
 use Rattle.dissonance_rules.specs.Mixed.{clash_unexcused, is_excused}
-use Rattle.dissonance_rules.specs.Passing.{has_notes_after, is_good_in, is_open_clash, notes_needed, reaches_last_bar, starts_in_clash}
+use Rattle.dissonance_rules.specs.Passing.{clashes_badly, has_notes_after, is_good_in, is_open_clash, notes_needed, reaches_last_bar, starts_badly, starts_in_clash}
 use Rattle.dissonance_rules.specs.Starts.{AreStartsOf, IsStartsOf, closes_pair, is_told_now, is_untold, no_starts, starts_free, starts_from}
 use Rattle.dissonance_rules.specs.declared.starts.LatestStarts.{LatestStarts}
 use Rattle.dissonance_rules.proofs.EitherWay.{clash-turned}
@@ -296,6 +295,58 @@ unclashing rule ex i behind now ahead v w told none =
         && not (is_good_in ex i behind now ahead x))) h
         ∙ unclashing_way (is_free ex x) (not (is_mixed ex) && not (begins_bar i)) (starts (cell_in now x))
         (is_good_in ex i behind now ahead x)
+
+-- with one S15 is broken within a bar where a free voice starts a note that isn't good
+clashing_way : (free m b s c g : Bool) → m ≡ false → b ≡ false → c ≡ true
+    → (free && (not m && not b && (s && c) && not g)) ≡ (s && free && not g)
+clashing_way true false false true true g e f h = refl
+clashing_way true false false false true g e f h = refl
+clashing_way true false false s false g e f h = cc
+clashing_way true false true s c g e f h = cc
+clashing_way true true b s c g e f h = cc
+clashing_way false m b true c g e f h = refl
+clashing_way false m b false c g e f h = refl
+
+-- and where species are mixed it isn't
+mixed_way : (free m b s g : Bool) → m ≡ true → (free && (not m && not b && s && not g)) ≡ false
+mixed_way true true b s g e = refl
+mixed_way true false b s g e = cc
+mixed_way false m b s g e = refl
+
+module _ (ex : Exercise) (i : ℕ) (behind : List (List Cell)) (now : List Cell) (ahead : List (List Cell)) (v w : ℕ)
+  where
+    -- of the two rules the one that isn't S27
+    pub ways-of : (rule : ℕ) → is_told_later rule ≡ true → (rule == 27) ≡ false
+        → pair_rule rule ex i behind now ahead v w
+        ≡ ((is_free ex v && clashes_badly ex i behind now ahead v w)
+        || (is_free ex w && clashes_badly ex i behind now ahead w v))
+    ways-of rule told other =
+        ap (λ r. pair_rule r ex i behind now ahead v w) (other_is_passing rule told other)
+
+    pub clashing-bad : clash now v w ≡ true → begins_bar i ≡ false → is_mixed ex ≡ false
+        → ((is_free ex v && clashes_badly ex i behind now ahead v w)
+        || (is_free ex w && clashes_badly ex i behind now ahead w v))
+        ≡ (starts_badly ex i behind now ahead v || starts_badly ex i behind now ahead w)
+    clashing-bad clashing within one =
+        ap (λ b. b || (is_free ex w && clashes_badly ex i behind now ahead w v)) (way v w clashing)
+        ∙ ap (λ b. starts_badly ex i behind now ahead v || b) (way w v (sym (clash-turned now v w) ∙ clashing))
+      where
+        way : (x y : ℕ) → clash now x y ≡ true → (is_free ex x && clashes_badly ex i behind now ahead x y)
+            ≡ starts_badly ex i behind now ahead x
+        way x y h =
+            clashing_way (is_free ex x) (is_mixed ex) (begins_bar i) (starts (cell_in now x)) (clash now x y)
+            (is_good_in ex i behind now ahead x) one within h
+
+    pub mixed-unbroken : is_mixed ex ≡ true
+        → ((is_free ex v && clashes_badly ex i behind now ahead v w)
+        || (is_free ex w && clashes_badly ex i behind now ahead w v)) ≡ false
+    mixed-unbroken mixed =
+        ap (λ b. b || (is_free ex w && clashes_badly ex i behind now ahead w v)) (way v w) ∙ way w v
+      where
+        way : (x y : ℕ) → (is_free ex x && clashes_badly ex i behind now ahead x y) ≡ false
+        way x y =
+            mixed_way (is_free ex x) (is_mixed ex) (begins_bar i) (starts_in_clash now x y)
+            (is_good_in ex i behind now ahead x) mixed
 
 module _ (rule : ℕ) (ex : Exercise) (voices : ℕ) (p : List (List Cell)) (col : List Cell) (i : ℕ) where
   abbrev grown : List (List Cell)

@@ -16,6 +16,7 @@ use Rattle.rule_law.specs.Bars.{begins_bar}
 use Rattle.rule_law.specs.Degrees.{lies_above}
 use Rattle.rule_law.specs.Places.{reading_of}
 use Rattle.rule_law.specs.Terms.{clash, falls, holds_of, interval_of_pitches, is_clean, is_step, previous_pitch, same_way, starts}
+use Rattle.rule_law.specs.Voices.{is_free}
 
 -- the test holds of the move from a first pitch to a second and of the move from the second to a
 -- third, where there are all three
@@ -80,6 +81,11 @@ is_good_note species i behind now ahead v =
 -- the same of a voice of an exercise
 abbrev pub is_good_in : Exercise → ℕ → List (List Cell) → List Cell → List (List Cell) → ℕ → Bool
 is_good_in ex i behind now ahead v = is_good_note (species_in ex v) i behind now ahead v
+
+-- a free voice starts a note that isn't good
+abbrev pub starts_badly : Exercise → ℕ → List (List Cell) → List Cell → List (List Cell) → ℕ → Bool
+starts_badly ex i behind now ahead v =
+    starts (cell_in now v) && is_free ex v && not (is_good_in ex i behind now ahead v)
 
 -- a note of v starts, and it clashes with w
 abbrev pub starts_in_clash : List Cell → ℕ → ℕ → Bool

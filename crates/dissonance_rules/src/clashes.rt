@@ -47,7 +47,7 @@ fn breaks_one_way<C: ColumnsAround>(
 
 /// Whether a rule is broken for two voices. S27 names no voice first; the others are broken for one
 /// way to name them, or for both.
-pub(crate) fn breaks_pair<C: ColumnsAround>(
+fn breaks_pair<C: ColumnsAround>(
     around: &C,
     rule: u8,
     ex: &Exercise,

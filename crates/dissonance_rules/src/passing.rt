@@ -8,7 +8,7 @@ ghost use Rattle.fux_grid.specs.Exercises.{IsValid};
 ghost use Rattle.rule_law.specs.After.{second_of};
 ghost use Rattle.rule_law.specs.Bars as terms;
 ghost use Rattle.rule_law.specs.Places.{reading_of};
-ghost use Rattle.rule_law.specs.Voices.{is_free};
+ghost use Rattle.rule_law.specs.Voices as voices;
 ghost use Rattle.dissonance_rules.specs.Passing as words;
 ghost use Rattle.dissonance_rules.specs.Told.{is_open_within};
 ghost use Rattle.rule_law.specs.Within.{notes_within};
@@ -16,8 +16,8 @@ ghost use Rattle.rule_law.specs.Within.{notes_within};
 use fux_grid::{Cell, Exercise, Onset, cell_of, is_mixed, species_of};
 use fux_pitch::{Pitch, interval_of};
 use rule_law::{
-    ColumnsAround, begins_bar, cell_around, cells_ahead, falls, is_clash, is_clean, is_step,
-    lies_above, note_within, onset_pitch, same_way, starts,
+    ColumnsAround, begins_bar, cell_around, cells_ahead, falls, is_clash, is_clean, is_free,
+    is_step, lies_above, note_within, onset_pitch, same_way, starts,
 };
 
 /// A passing note: the move to it and the move from it are steps the same way.
@@ -181,7 +181,7 @@ pub(crate) fn is_good_note<C: ColumnsAround>(around: &C, ex: &Exercise, i: usize
     requires room { C.size around.now ≤ 192 }
     requires place { i < C.size around.now }
     ensures { (s : Columns) (first : ℕ) → C.show around.now ex.now s first → first ≤ i - 1
-        → is_free ex.now v ≡ true → result ≡ reading_of (words.is_good_in ex.now) s i v }
+        → voices.is_free ex.now v ≡ true → result ≡ reading_of (words.is_good_in ex.now) s i v }
 {
     let next = next_notes(around, ex, i, v, around.count());
     is_good(
@@ -192,6 +192,20 @@ pub(crate) fn is_good_note<C: ColumnsAround>(around: &C, ex: &Exercise, i: usize
         is_clean_at(around, ex, i, v, next.first),
         onset_pitch(next.second),
     )
+}
+
+/// Whether a free voice starts a note at column `i` that isn't good.
+pub(crate) fn starts_badly<C: ColumnsAround>(around: &C, ex: &Exercise, i: usize, v: u8) -> bool
+    requires voices { ex.now.voices ≤ 4 }
+    requires room { C.size around.now ≤ 192 }
+    requires place { i < C.size around.now }
+    ensures { (s : Columns) (first : ℕ) → C.show around.now ex.now s first → first ≤ i - 1 →
+        result ≡ reading_of (words.starts_badly ex.now) s i v }
+{
+    if !starts(cell_around(around, ex, v, i)) || !is_free(ex, v) {
+        return false;
+    }
+    !is_good_note(around, ex, i, v)
 }
 
 /// S15, for one way to name the voices, where one species is given: whether a note of `v`, a free
@@ -207,7 +221,7 @@ pub(crate) fn clashes_badly<C: ColumnsAround>(
     requires room { C.size around.now ≤ 192 }
     requires place { i < C.size around.now }
     ensures { (s : Columns) (first : ℕ) → C.show around.now ex.now s first → first ≤ i - 1
-        → is_free ex.now v ≡ true → result ≡ words.clashes_badly_at ex.now s i v w }
+        → voices.is_free ex.now v ≡ true → result ≡ words.clashes_badly_at ex.now s i v w }
 {
     if is_mixed(ex) || !clashes_within_bar(i, around.cells(ex, i), v as usize, w as usize) {
         return false;

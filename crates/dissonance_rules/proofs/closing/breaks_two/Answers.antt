@@ -1,4 +1,4 @@
-use Rattle.std.proofs.Common.{rules, ◌≡◌, ℕ, ◌≤◌, ◌<◌, ◌+◌, ◌∷◌, ◌++◌, [], List, false, true, ap, sym, ◌∙◌, arith, length}
+use Rattle.std.proofs.Common.{rules, ◌≡◌, ℕ, ◌<◌, ◌+◌, ◌∷◌, ◌++◌, [], List, false, true, ap, sym, ◌∙◌, arith, length}
 use Rattle.std.specs.Prelude.{◌-◌, ◌*◌, ◌||◌, drop, nat_lt, slice_index_or}
 use Rattle.std.proofs.lemmas.Bool.{eqb-true, false_from_ne_true}
 use Rattle.std.proofs.lemmas.List.{length-append}
@@ -108,6 +108,6 @@ returns c = λ voices pair p col are kept on.
     ∙ ap (λ len. closes_pair ex starts (slice_index_or s i []) i len c.args.v c.args.w) (sym kept.newest.count)
     ∙ ap (λ cells. closes_pair ex starts cells i c.args.newest.now.len c.args.v c.args.w) (sym cells)
     ∙ sym c.closes_pair.ensures ∙ c.if-not-closes_pair.false in
-    c.breaks_pair.ensures s (i - 3) kept (omega arith) (omega (arith, within, length-append p (col ∷ [])))
+    c.breaks_clashing.ensures s (i - 3) kept (omega arith) clashing (sym c.begins_bar.ensures ∙ c.if-begins_bar.false)
     ∙ sym (closed-breaks ex voices p col i on early starts are four c.requires.valid.most_voices within c.args.v
     c.args.w pair c.requires.second c.args.rule c.requires.told closed)
