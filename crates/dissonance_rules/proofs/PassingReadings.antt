@@ -1,5 +1,5 @@
 -- What S15 says of a place, read from the notes around it.
-use Rattle.std.specs.Prelude.{◌≡◌, ℕ, ◌+◌, ◌-◌, ◌*◌, ◌<◌, ◌≤◌, Bool, true, false, not, ◌||◌, nat_lt, List, [], ◌∷◌, Option, None, is_some, drop, take, length, slice_index_or, if◌then◌else◌, refl}
+use Rattle.std.specs.Prelude.{◌≡◌, ℕ, ◌+◌, ◌-◌, ◌*◌, ◌<◌, ◌≤◌, Bool, true, false, not, ◌&&◌, ◌||◌, nat_lt, List, [], ◌∷◌, Option, None, is_some, drop, take, length, slice_index_or, if◌then◌else◌, refl}
 use Rattle.std.proofs.Common.{ap, sym, ◌∙◌, arith}
 use Rattle.std.proofs.lemmas.List.{length-drop, length-take-le, take_all}
 use Rattle.fux_pitch.specs.declared.pitch.Pitch.{Pitch}
@@ -9,10 +9,11 @@ use Rattle.fux_grid.specs.declared.exercise.Exercise.{Exercise}
 use Rattle.fux_grid.specs.Cells.{first_of, pitch_of}
 use Rattle.fux_grid.specs.Columns.{cell_at, earlier, line}
 use Rattle.fux_grid.specs.Exercises.{species_in}
+use Rattle.rule_law.specs.Degrees.{lies_above}
 use Rattle.rule_law.specs.After.{next_onset, onset_pitch, second_next_onset, second_of}
 use Rattle.rule_law.specs.Terms.{previous_pitch}
 use Rattle.rule_law.specs.Within.{notes_within}
-use Rattle.dissonance_rules.specs.Passing.{has_notes_after, has_ornaments, is_good, is_good_note, is_open_clash, reaches_last_bar, starts_clean, starts_in_clash}
+use Rattle.dissonance_rules.specs.Passing.{bends_down, has_notes_after, has_ornaments, is_good, is_good_note, is_neighbor, is_open_clash, is_passing, reaches_last_bar, starts_clean, starts_in_clash}
 
 -- without a first there is no second
 pub no_second : {X : Type 0} (xs : List X) → None ≡ first_of xs → None ≡ second_of xs
@@ -56,6 +57,18 @@ good_found species s i v end previous now next second clean size found =
 
     first : next ≡ next_onset i v (drop (i + 1) s)
     first = found.next_is ∙ ap (λ cols. next_onset i v (drop (i + 1) cols)) all
+
+-- that the voice is clean at the next note matters only where the pitches may be a cambiata's
+good_bent : (p b f l c a : Bool) → (p || (b && (f || ((l && (l && c)) && a)))) ≡ (p || (b && (f || ((l && c) && a))))
+good_bent p b f true c a = refl
+good_bent p b f false c a = refl
+
+pub good-clean : (species : ℕ) (previous here next : Option Pitch) (clean : Bool) (after : Option Pitch)
+    → is_good species previous here next (bends_down previous here next && clean) after
+    ≡ is_good species previous here next clean after
+good-clean species previous here next clean after =
+    good_bent (is_passing previous here next) (has_ornaments species) (is_neighbor previous here next)
+    (bends_down previous here next) clean (lies_above 1 after next)
 
 -- ---- whether S15 is open in the first columns
 

@@ -51,6 +51,11 @@ abbrev pub is_cambiata : Option Pitch → Option Pitch → Option Pitch → Bool
 is_cambiata previous here next clean after =
     falls_by_step previous here && lies_above 2 here next && clean && lies_above 1 after next
 
+-- as far as the next note a note may be one: it falls by a step, and the next note lies two degrees
+-- below it
+abbrev pub bends_down : Option Pitch → Option Pitch → Option Pitch → Bool
+bends_down previous here next = falls_by_step previous here && lies_above 2 here next
+
 -- in species 3 and 5 neighbors and cambiatas are good too
 abbrev pub has_ornaments : ℕ → Bool
 has_ornaments species = (species == 3) || (species == 5)

@@ -175,7 +175,37 @@ fn is_clean_at<C: ColumnsAround>(
     }
 }
 
-/// Whether the note of a free voice that starts at column `i` is good.
+/// Whether by its pitches a note may be a cambiata, as far as the next note.
+#[inline]
+fn bends_down(previous: Option<Pitch>, here: Option<Pitch>, next: Option<Pitch>) -> bool
+    ensures { result ≡ words.bends_down previous here next }
+{
+    falls_by_step(previous, here) && lies_above(2, here, next)
+}
+
+/// Whether a voice is clean where a note starts, which is asked only where it is said to matter.
+fn is_clean_where<C: ColumnsAround>(
+    around: &C,
+    ex: &Exercise,
+    i: usize,
+    v: u8,
+    note: Option<Onset>,
+    asked: bool,
+) -> bool
+    requires voices { ex.now.voices ≤ 4 }
+    requires later { IfSome note (λ onset. i < onset.start) }
+    requires there { IfSome note (λ onset. onset.start < 192) }
+    ensures { (s : Columns) (first : ℕ) → C.show around.now ex.now s first → first ≤ i →
+        result ≡ (asked && words.starts_clean i (drop (i + 1) s) v note) }
+{
+    if !asked {
+        return false;
+    }
+    is_clean_at(around, ex, i, v, note)
+}
+
+/// Whether the note of a free voice that starts at column `i` is good. That the voice is clean at
+/// the next note is asked only where it may be a cambiata.
 pub(crate) fn is_good_note<C: ColumnsAround>(around: &C, ex: &Exercise, i: usize, v: u8) -> bool
     requires voices { ex.now.voices ≤ 4 }
     requires room { C.size around.now ≤ 192 }
@@ -184,14 +214,14 @@ pub(crate) fn is_good_note<C: ColumnsAround>(around: &C, ex: &Exercise, i: usize
         → voices.is_free ex.now v ≡ true → result ≡ reading_of (words.is_good_in ex.now) s i v }
 {
     let next = next_notes(around, ex, i, v, around.count());
-    is_good(
-        species_of(ex, v),
-        around.pitch_before(ex, v, i),
-        cell_around(around, ex, v, i).pitch(),
-        onset_pitch(next.first),
-        is_clean_at(around, ex, i, v, next.first),
-        onset_pitch(next.second),
-    )
+    let previous = around.pitch_before(ex, v, i);
+    let now = cell_around(around, ex, v, i);
+    let here = now.pitch();
+    let follows = onset_pitch(next.first);
+    let after = onset_pitch(next.second);
+    let bent = bends_down(previous, here, follows);
+    let clean = is_clean_where(around, ex, i, v, next.first, bent);
+    is_good(species_of(ex, v), previous, here, follows, clean, after)
 }
 
 /// Whether a free voice starts a note at column `i` that isn't good.
