@@ -2,6 +2,7 @@ pub mod BookLaws
 pub mod ClashLaws
 pub mod Closings
 pub mod EitherWay
+pub mod HeldLaws
 pub mod LatePlaces
 pub mod LateReadings
 pub mod LatestNotes

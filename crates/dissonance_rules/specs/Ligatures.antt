@@ -2,16 +2,26 @@
 -- prepared, resolved and of a good size.
 use Rattle.std.specs.Prelude.{ℕ, ◌-◌, ◌%◌, ◌==◌, Bool, not, ◌&&◌, ◌||◌, nat_le, List, [], ◌∷◌, slice_index_or}
 use Rattle.fux_grid.specs.declared.cell.Cell.{Cell}
+use Rattle.fux_grid.specs.declared.exercise.Exercise.{Exercise}
 use Rattle.fux_grid.specs.Cells.{cell_in, is_hold, pitch_of}
 use Rattle.fux_grid.specs.Columns.{newest_column}
 use Rattle.rule_law.specs.Bars.{begins_bar}
 use Rattle.rule_law.specs.Degrees.{lies_above}
 use Rattle.rule_law.specs.Sounding.{sounding_note, started_after}
 use Rattle.rule_law.specs.Terms.{clash, degrees_without_sign, holds_of, interval_in, is_clean, is_lowest, starts}
+use Rattle.rule_law.specs.Voices.{is_free}
 
 -- at the beginning of a bar v holds a note, and clashes with w
 abbrev pub is_suspended : ℕ → List Cell → ℕ → ℕ → Bool
 is_suspended i now v w = begins_bar i && is_hold (cell_in now v) && clash now v w
+
+-- a free voice holds a note in a column
+abbrev pub holds_free : Exercise → List Cell → ℕ → Bool
+holds_free ex now v = is_free ex v && is_hold (cell_in now v)
+
+-- or one of four voices does
+abbrev pub some_free_hold : Exercise → List Cell → Bool
+some_free_hold ex now = holds_free ex now 0 || holds_free ex now 1 || holds_free ex now 2 || holds_free ex now 3
 
 -- S19: a suspended voice is unprepared: its note started after column i - 4, or it wasn't clean in
 -- the column before

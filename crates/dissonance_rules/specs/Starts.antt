@@ -7,12 +7,13 @@ use Rattle.fux_grid.specs.Columns.{Columns, onsets_since}
 use Rattle.fux_grid.specs.Exercises.{species_in}
 use Rattle.rule_law.specs.Around.{AreKeptFrom}
 use Rattle.rule_law.specs.Bars.{begins_bar}
+use Rattle.rule_law.specs.Newest.{AreNewestOf}
 use Rattle.rule_law.specs.Prefixes.{GoesOn}
 use Rattle.rule_law.specs.Rulebooks.{IsAmong, newly_breaks}
 use Rattle.rule_law.specs.Terms.{starts}
 use Rattle.rule_law.specs.Voices.{is_free, pair_of}
 use Rattle.rule_law.specs.declared.newest.NewestColumns.{NewestColumns}
-use Rattle.dissonance_rules.specs.Book.{late_row}
+use Rattle.dissonance_rules.specs.Book.{late_count, late_first, late_row}
 use Rattle.dissonance_rules.specs.Passing.{has_ornaments, notes_needed}
 use Rattle.dissonance_rules.specs.declared.starts.LatestStarts.{LatestStarts}
 
@@ -63,6 +64,14 @@ pub record IsTelling (ex : Exercise) (voices : List LatestStarts) (last place v 
 abbrev pub HasTold : Exercise → List LatestStarts → ℕ → ℕ → ℕ → ℕ → Type 0
 HasTold ex voices first last start count =
     (v i : ℕ) → IsTelling ex voices last i v → first ≤ i → i < last → begins_bar i ≡ false → IsAmong start count i
+
+-- whatever is kept of them: of the rule's places the last column settles a break at none but so many
+-- from a first one on
+abbrev pub LeavesPlaces : ℕ → Exercise → NewestColumns → ℕ → ℕ → Type 0
+LeavesPlaces rule ex newest first count =
+    (p : Columns) (col : List Cell) → AreNewestOf ex.voices (p ++ col ∷ []) newest → GoesOn ex p (col ∷ [])
+    → (voices i : ℕ) → IsAmong (late_first rule ex (length p)) (late_count rule ex (length p)) i
+    → newly_breaks (late_row rule) ex voices p col i ≡ true → IsAmong first count i
 
 -- a free voice starts a note in a column
 abbrev pub starts_free : Exercise → List Cell → ℕ → Bool

@@ -7,13 +7,14 @@ ghost use Rattle.dissonance_rules.specs.Starts.{AreStartsOf};
 use crate::clashes::{breaks_clash, is_clash_settled};
 use crate::closing::breaks_told;
 use crate::dissonance::Dissonance;
+use crate::held::{held_left, suspension_places};
 use crate::late::{is_late, is_told_later, passing_places, settles_passing};
 use crate::passing::reaches_last_bar;
 use crate::rows::{breaks, cost};
 use crate::starts::{LatestStarts, no_starts, note_starts};
 use crate::told::passing_left;
-use fux_grid::{Cell, Exercise, Score, VoiceSet, is_mixed, slot_of};
-use rule_law::{Form, LatePlaces, LateQuestion, Latest, NewestColumns, RuleCrate, begins_bar};
+use fux_grid::{Cell, Exercise, Score, VoiceSet};
+use rule_law::{Form, LatePlaces, LateQuestion, Latest, NewestColumns, RuleCrate};
 
 /// The crate's rules and tolls keep the laws of a book: a theorem, which costs nothing when it's
 /// called.
@@ -60,16 +61,14 @@ impl RuleCrate for Dissonance {
     }
 
     fn places_settled(rule: u8, ex: &Exercise, i: usize) -> LatePlaces {
-        match rule {
-            15 | 27 => passing_places(rule, ex, i),
-            20 => LatePlaces::own(slot_of(i) == 4, i.saturating_sub(4)),
-            28 => LatePlaces::own(is_mixed(ex) && slot_of(i) == 3, i.saturating_sub(3)),
-            _ => LatePlaces::own(begins_bar(i), i),
+        if is_told_later(rule) {
+            return passing_places(rule, ex, i);
         }
+        suspension_places(rule, ex, i)
     }
 
-    /// Of those of S15 and S27 the places of the notes that the newest column tells of; all of the
-    /// other rules'.
+    /// Of those of S15 and S27 the places of the notes that the newest column tells of; of the
+    /// other rules' those at which a free voice holds a note.
     #[inline(always)]
     fn places_left(
         part: &[LatestStarts; 4],
@@ -78,7 +77,7 @@ impl RuleCrate for Dissonance {
         ex: &Exercise,
     ) -> LatePlaces {
         if !is_told_later(rule) {
-            return Dissonance::places_settled(rule, ex, newest.len - 1);
+            return held_left(newest, rule, ex);
         }
         passing_left(part, newest, rule, ex)
     }

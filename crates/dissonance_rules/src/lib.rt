@@ -6,6 +6,7 @@ mod book;
 mod clashes;
 mod closing;
 mod dissonance;
+mod held;
 mod late;
 mod ligatures;
 mod mixed;

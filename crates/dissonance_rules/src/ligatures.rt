@@ -8,7 +8,7 @@ ghost use Rattle.dissonance_rules.specs.Ligatures as words;
 
 use fux_grid::{Cell, Exercise, cell_of};
 use rule_law::{
-    ColumnsAround, begins_bar, cells_ahead, cells_behind, interval_in, is_clash, is_clean,
+    ColumnsAround, begins_bar, cells_ahead, cells_behind, interval_in, is_clash, is_clean, is_free,
     lies_above, lowest, starts,
 };
 
@@ -17,6 +17,25 @@ pub fn is_suspended(i: usize, now: &[Cell], v: usize, w: usize) -> bool
     ensures { result ≡ words.is_suspended i now.now v w }
 {
     begins_bar(i) && cell_of(now, v).is_hold() && is_clash(now, v, w)
+}
+
+/// Whether a free voice holds a note in a column.
+#[inline]
+fn holds_free(ex: &Exercise, now: &[Cell], v: u8) -> bool
+    ensures { result ≡ words.holds_free ex.now now.now v }
+{
+    is_free(ex, v) && cell_of(now, v as usize).is_hold()
+}
+
+/// Whether some free voice does.
+#[inline]
+pub(crate) fn some_free_hold(ex: &Exercise, now: &[Cell]) -> bool
+    ensures { result ≡ words.some_free_hold ex.now now.now }
+{
+    holds_free(ex, now, 0)
+        || holds_free(ex, now, 1)
+        || holds_free(ex, now, 2)
+        || holds_free(ex, now, 3)
 }
 
 /// Whether a voice is unprepared after three columns, the newest first: it started a note in one of
