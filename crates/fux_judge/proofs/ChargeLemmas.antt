@@ -16,6 +16,7 @@ use Rattle.melody_rules.specs.Rows as melody
 use Rattle.penalty_sheet.specs.declared.sheet.Sheet.{Sheet}
 use Rattle.penalty_sheet.specs.Weights.{weight_of}
 use Rattle.fux_judge.specs.Charges.{stands, tolls_of_melody, tolls_of_pairs, voice_charge, voice_charges, voice_toll}
+use Rattle.fux_judge.specs.Links.{others_at_once}
 use Rattle.fux_judge.specs.Penalties.{newly_paid}
 use Rattle.fux_judge.specs.Rules.{costs, cost_at, toll_at, tolls_at_once, tolls_read}
 use Rattle.fux_judge.specs.Steps.{toll_at_end, tolls_at_end}
@@ -43,9 +44,14 @@ weighed false false false true w = omega arith
 weighed false false false false w = omega arith
 
 -- the tolls that are settled at once are those of melody, and those of several voices
-tolls_here : tolls_at_once ≡ 1 ∷ 2 ∷ 7 ∷ 8 ∷ 9 ∷ 10 ∷ 11 ∷ 13 ∷ []
+pub tolls_here : tolls_at_once ≡ 1 ∷ 2 ∷ 7 ∷ 8 ∷ 9 ∷ 10 ∷ 11 ∷ 13 ∷ []
 unfolding tolls_at_once tolls_read toll_at
 tolls_here = refl
+
+-- without those that a column decides by itself
+pub others_here : others_at_once ≡ 7 ∷ 8 ∷ 9 ∷ 10 ∷ 11 ∷ 13 ∷ []
+unfolding others_at_once tolls_at_once tolls_read toll_at
+others_here = refl
 
 module _ (ex : Exercise) (sheet : Sheet) (p : List (List Cell)) (col : List Cell) where
   -- each toll of melody at the column is what it costs the four voices
@@ -90,6 +96,17 @@ module _ (ex : Exercise) (sheet : Sheet) (p : List (List Cell)) (col : List Cell
       ≡ voice_charge ex sheet p col 0 + voice_charge ex sheet p col 1 + voice_charge ex sheet p col 2 + voice_charge ex
       sheet p col 3 + sum_by (λ toll. cost_at toll ex (p ++ col ∷ []) (length p) * weight_of sheet toll) tolls_of_pairs
   tolls_by_voices = ap (sum_by (toll_at_end ex sheet p col)) tolls_here ∙ by_numbers
+
+  others_by_numbers : sum_by (toll_at_end ex sheet p col) (7 ∷ 8 ∷ 9 ∷ 10 ∷ 11 ∷ 13 ∷ [])
+      ≡ voice_charge ex sheet p col 0 + voice_charge ex sheet p col 1 + voice_charge ex sheet p col 2 + voice_charge ex
+      sheet p col 3 + toll_at_end ex sheet p col 11
+  others_by_numbers = omega (arith, seven, eight, nine, ten, thirteen)
+
+  -- and those of them that a column doesn't decide by itself are what each voice pays, and Q11
+  pub others_by_voices : sum_by (toll_at_end ex sheet p col) others_at_once
+      ≡ voice_charge ex sheet p col 0 + voice_charge ex sheet p col 1 + voice_charge ex sheet p col 2 + voice_charge ex
+      sheet p col 3 + toll_at_end ex sheet p col 11
+  others_by_voices = ap (sum_by (toll_at_end ex sheet p col)) others_here ∙ others_by_numbers
 
   no_more : (n : ℕ) → n ≤ 4 → voice_charges n ex sheet p col ≤ voice_charge ex sheet p col 0 + voice_charge ex sheet p
       col 1 + voice_charge ex sheet p col 2 + voice_charge ex sheet p col 3
@@ -153,11 +170,10 @@ latest_of_line behind (suc (suc (suc (suc v)))) h = absurd (omega arith)
 -- and together they cost that
 pub charged_by_voices : (ex : Exercise) (sheet : Sheet) (p : List (List Cell)) (col : List Cell) (a b c d e : ℕ) → a
     ≡ voice_charge ex sheet p col 0 → b ≡ voice_charge ex sheet p col 1 → c ≡ voice_charge ex sheet p col 2 → d
-    ≡ voice_charge ex sheet p col 3 → e ≡ sum_by
-    (λ toll. cost_at toll ex (p ++ col ∷ []) (length p) * weight_of sheet toll) tolls_of_pairs → a + b + c + d + e
-    ≡ tolls_at_end ex sheet p col
+    ≡ voice_charge ex sheet p col 3 → e ≡ toll_at_end ex sheet p col 11 → a + b + c + d + e ≡ sum_by
+    (toll_at_end ex sheet p col) others_at_once
 charged_by_voices ex sheet p col a b c d e ha hb hc hd he =
-    together _ _ _ _ _ ha hb hc hd he ∙ sym (tolls_by_voices ex sheet p col)
+    together _ _ _ _ _ ha hb hc hd he ∙ sym (others_by_voices ex sheet p col)
   where
     together : (w x y z t : ℕ) → a ≡ w → b ≡ x → c ≡ y → d ≡ z → e ≡ t → a + b + c + d + e ≡ w + x + y + z + t
     together w x y z t ha hb hc hd he = omega arith

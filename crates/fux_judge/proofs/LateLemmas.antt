@@ -18,6 +18,7 @@ use Rattle.penalty_sheet.specs.Weights.{weight_of}
 use Rattle.fux_judge.specs.declared.state.State.{State}
 use Rattle.fux_judge.proofs.Facts.{rule_keeps}
 use Rattle.fux_judge.specs.Late.{HaveNoPlace}
+use Rattle.fux_judge.specs.Links.{other_late_tolls}
 use Rattle.fux_judge.specs.Penalties.{is_strict_at, new_price, new_toll, newly_broken_at}
 use Rattle.fux_judge.specs.Rules.{all_rules, cost_at, is_cost_settled, is_late, late_rules, late_tolls, rule_at, rules_read, toll_at, tolls_read}
 use Rattle.fux_judge.specs.States.{HasCome}
@@ -209,3 +210,8 @@ weightless ex sheet p col toll e =
 pub tolls_are : late_tolls ≡ 3 ∷ 4 ∷ 5 ∷ 6 ∷ 12 ∷ 14 ∷ 15 ∷ 16 ∷ 21 ∷ []
 unfolding late_tolls tolls_read toll_at
 tolls_are = refl
+
+-- without those that a column decides by itself
+pub other_late_are : other_late_tolls ≡ 12 ∷ 14 ∷ 16 ∷ 21 ∷ []
+unfolding other_late_tolls late_tolls tolls_read toll_at
+other_late_are = refl

@@ -16,6 +16,7 @@ pub mod LinkPaid
 pub mod MenuBreaks
 pub mod MomentLemmas
 pub mod MoveLinks
+pub mod OwnTolls
 pub mod Parts
 pub mod PruningLemmas
 pub mod QuietLemmas

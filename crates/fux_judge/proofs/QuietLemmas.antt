@@ -12,14 +12,19 @@ use Rattle.penalty_sheet.specs.Weights.{weight_of}
 use Rattle.fux_judge.specs.declared.moment.Moment.{Moment}
 use Rattle.rule_law.specs.Law.{reading-at_end}
 use Rattle.fux_judge.proofs.Facts.{rule_keeps, toll_keeps}
-use Rattle.fux_judge.specs.Rules.{all_sets, breaks, costs, cost_at, is_late, is_late_toll, rule_at, rules_at_once, rules_read, tolls_at_once}
-use Rattle.fux_judge.proofs.StepPlaces.{tolls_all_at_once}
+use Rattle.fux_judge.specs.Links.{others_at_once}
+use Rattle.fux_judge.specs.Rules.{all_sets, breaks, costs, cost_at, is_late, is_late_toll, rule_at, rules_at_once, rules_read, toll_at, tolls_at_once, tolls_read}
 use Rattle.fux_judge.specs.Penalties.{is_strict_at, price_at_place}
 use Rattle.fux_judge.specs.Moments.{is_broken_then, is_strictly_broken_then, prices_then, toll_then, with_column}
 
 pub none_passes : {X : Type 0} (test : X → Bool) (xs : List X) → ((x : X) → test x ≡ false) → list_any test xs ≡ false
 none_passes test [] none = refl
 none_passes test (x ∷ xs) none = rw (none x) (none_passes test xs none)
+
+-- the tolls that are settled at once, without a column's own ones, aren't late
+others_all_at_once : list_all (λ toll. not (is_late_toll toll)) others_at_once ≡ true
+unfolding others_at_once tolls_at_once tolls_read toll_at
+others_all_at_once = refl
 
 module _ (p : List (List Cell)) (m : Moment) (place : m.state.now.newest.len ≡ length p)
     (quiet : is_quiet m.state.now.newest.len m.column.now ≡ true) where
@@ -74,8 +79,8 @@ module _ (p : List (List Cell)) (m : Moment) (place : m.state.now.newest.len ≡
       sum_of_none : (a b s : ℕ) → s ≡ a + b → a ≡ 0 → b ≡ 0 → s ≡ 0
       sum_of_none a b s e f g = omega arith
 
-  pub none_charged : (sheet : Sheet) → sum_by (toll_then sheet p m) tolls_at_once ≡ 0
-  none_charged sheet = none_of tolls_at_once (tolls_all_at_once m.exercise.now p m.column.now)
+  pub none_charged : (sheet : Sheet) → sum_by (toll_then sheet p m) others_at_once ≡ 0
+  none_charged sheet = none_of others_at_once others_all_at_once
     where
       nothing : (toll n : ℕ) → n ≡ 0 → n * weight_of sheet toll ≡ 0
       nothing toll n e = ap (λ c. c * weight_of sheet toll) e ∙ none (weight_of sheet toll)

@@ -1,27 +1,26 @@
--- Behind an orderly prefix a quiet column settles no late toll but Q16 (`pattern_alone`).
+-- Behind an orderly prefix a quiet column settles none of the late tolls that it doesn't decide by
+-- itself but Q16 (`pattern_alone`).
 use Rattle.std.proofs.Common.{◌≡◌, ◌<◌, ◌≤◌, ◌+◌, ◌*◌, ◌&&◌, ℕ, Bool, true, false, if◌then◌else◌, List, [], ◌∷◌, ◌++◌, length, reverse, refl, ap, sym, ◌∙◌, arith}
 use Rattle.std.specs.Prelude.{nat_le}
 use Rattle.std.specs.List.{sum_by}
-use Rattle.std.proofs.lemmas.Bool.{and_right}
 use Rattle.fux_grid.specs.declared.cell.Cell.{Cell}
 use Rattle.fux_grid.specs.declared.exercise.Exercise.{Exercise}
 use Rattle.fux_grid.specs.Exercises.{bar_of}
-use Rattle.rule_law.specs.Bars.{begins_bar, begins_inner_bar}
 use Rattle.rule_law.specs.Growth.{newly}
 use Rattle.rule_law.specs.Law.{reading-at_end}
 use Rattle.rule_law.specs.Places.{reading_of}
 use Rattle.rule_law.specs.Prefixes.{GoesOn}
-use Rattle.rule_law.specs.Quiet.{is_quiet, quiet_inner, quiet_slot}
+use Rattle.rule_law.specs.Quiet.{is_quiet, quiet_slot}
 use Rattle.motion_rules.specs.Runs.{ends_four_bars}
 use Rattle.rhythm_cadence.specs.Inflections.{inflection_toll}
 use Rattle.rhythm_cadence.proofs.Quiet.{none_inflected}
 use Rattle.penalty_sheet.specs.declared.sheet.Sheet.{Sheet}
 use Rattle.penalty_sheet.specs.Weights.{weight_of}
-use Rattle.fux_judge.specs.Links.{is_toll_between, last_column}
+use Rattle.fux_judge.specs.Links.{is_toll_between, last_column, other_late_tolls}
 use Rattle.fux_judge.specs.Penalties.{new_toll}
-use Rattle.fux_judge.specs.Rules.{cost_at, costs, is_cost_settled, late_tolls, toll_at}
+use Rattle.fux_judge.specs.Rules.{cost_at, costs, is_cost_settled, toll_at}
 use Rattle.fux_judge.specs.Steps.{sum_among, toll_late}
-use Rattle.fux_judge.proofs.LateLemmas.{tolls_are}
+use Rattle.fux_judge.proofs.LateLemmas.{other_late_are}
 use Rattle.fux_judge.proofs.LinkLemmas.{has_toll_row}
 use Rattle.fux_judge.proofs.LinkPaid.{orderly_prefix, read_near}
 use Rattle.fux_judge.proofs.QuietLinks.{free}
@@ -72,26 +71,6 @@ module _ (ex : Exercise) (there : ex.cantus_voice < ex.voices) (sheet : Sheet) (
   no_bar : (b : Bool) → b ≡ false → ◌≡◌ {A = ℕ} (if b then 1 else 0) 0
   no_bar b e = ap (λ t. if t then 1 else 0) e
 
-  thirds : toll_late ex sheet p col 3 ≡ 0
-  unfolding toll_at
-  thirds = none_of_none 3 _ (length p)
-      (no_bar (nat_le 3 ex.voices && begins_inner_bar ex (length p))
-      (and_right (nat_le 3 ex.voices) (begins_inner_bar ex (length p)) (quiet_inner ex (length p) col quiet)))
-
-  wide : toll_late ex sheet p col 4 ≡ 0
-  unfolding toll_at
-  wide = none_of_none 4 _ (length p) (no_bar (begins_bar (length p)) (quiet_slot (length p) col quiet))
-
-  doubled : toll_late ex sheet p col 5 ≡ 0
-  unfolding toll_at
-  doubled = none_of_none 5 _ (length p)
-      (no_bar (nat_le 3 ex.voices && begins_bar (length p))
-      (and_right (nat_le 3 ex.voices) (begins_bar (length p)) (quiet_slot (length p) col quiet)))
-
-  straying : toll_late ex sheet p col 6 ≡ 0
-  unfolding toll_at
-  straying = none_of_own 6 _ refl (at_most_one true)
-
   inner : toll_late ex sheet p col 12 ≡ 0
   unfolding toll_at
   inner = none_of_own 12 _ refl (at_most_one (nat_le 3 ex.voices))
@@ -100,11 +79,6 @@ module _ (ex : Exercise) (there : ex.cantus_voice < ex.voices) (sheet : Sheet) (
   unfolding toll_at
   runs = none_of_none 14 _ (length p)
       (no_bar (ends_four_bars (length p)) (ap (λ b. b && nat_le 4 (bar_of (length p))) (quiet_slot (length p) col quiet)))
-
-  ligatures : toll_late ex sheet p col 15 ≡ 0
-  unfolding toll_at
-  ligatures = none_of_none 15 _ (length p)
-      (no_bar (begins_inner_bar ex (length p)) (quiet_inner ex (length p) col quiet))
 
   inflections : toll_late ex sheet p col 21 ≡ 0
   unfolding toll_at
@@ -122,17 +96,6 @@ module _ (ex : Exercise) (there : ex.cantus_voice < ex.voices) (sheet : Sheet) (
       still = nothing (newly (is_cost_settled 21 ex) p col (length p))
           (reading_of (inflection_toll ex) (p ++ col ∷ []) (length p)) (weight_of sheet 21) costless
 
-  pub pattern_alone : toll_late ex sheet p col 16 ≡ sum_by (toll_late ex sheet p col) late_tolls
+  pub pattern_alone : toll_late ex sheet p col 16 ≡ sum_by (toll_late ex sheet p col) other_late_tolls
   pattern_alone =
-      omega (
-        arith,
-        ap (sum_by (toll_late ex sheet p col)) tolls_are,
-        thirds,
-        wide,
-        doubled,
-        straying,
-        inner,
-        runs,
-        ligatures,
-        inflections,
-      )
+      omega (arith, ap (sum_by (toll_late ex sheet p col)) other_late_are, inner, runs, inflections)

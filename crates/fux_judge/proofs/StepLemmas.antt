@@ -12,10 +12,12 @@ use Rattle.rule_law.specs.Prefixes.{GoesOn}
 use Rattle.penalty_sheet.specs.declared.sheet.Sheet.{Sheet}
 use Rattle.fux_judge.specs.declared.moment.Moment.{Moment}
 use Rattle.fux_judge.proofs.Parts.{list_any-parted}
-use Rattle.fux_judge.specs.Rules.{all_sets, is_broken, is_late, is_read, late_rules, late_tolls, rule_at, rules_at_once, rules_read, tolls_at_once}
+use Rattle.fux_judge.specs.Links.{other_late_tolls, others_at_once, own_of}
+use Rattle.fux_judge.specs.Rules.{all_sets, is_broken, is_late, is_read, late_rules, rule_at, rules_at_once, rules_read}
 use Rattle.fux_judge.specs.Penalties.{is_strict_at, price_at_place, newly_broken, newly_paid}
 use Rattle.fux_judge.specs.Moments.{is_strictly_broken_then, prices_then, toll_then}
-use Rattle.fux_judge.specs.Steps.{breaks_late, is_strictly_broken_at_end, prices_at_end, prices_late, toll_at_end, toll_late, tolls_at_end}
+use Rattle.fux_judge.specs.Steps.{breaks_late, is_strictly_broken_at_end, prices_at_end, prices_late, toll_at_end, toll_late}
+use Rattle.fux_judge.proofs.OwnTolls.{own_apart}
 use Rattle.fux_judge.proofs.StepPlaces.{all_at_once, all_late, newly_broken-at_once, newly_broken-late, newly_paid-parts}
 use Rattle.fux_judge.proofs.PruningLemmas.{one_of}
 
@@ -121,9 +123,9 @@ module _ (ex : Exercise) (p : List (List Cell)) (col : List Cell) where
         ∙ ap (λ c. sum_by (λ voices. if is_broken rule ex voices (p ++ c ∷ []) (length p)
         then price_at_place rule ex voices (length p) else 0) all_sets) its
 
-    tolls_then_are : sum_by (toll_then sheet p m) tolls_at_once ≡ tolls_at_end ex sheet p col
-    tolls_then_are = ap (λ e. sum_by (toll_at_end e sheet p m.column.now) tolls_at_once) same
-        ∙ ap (λ c. sum_by (toll_at_end ex sheet p c) tolls_at_once) its
+    others_then_are : sum_by (toll_then sheet p m) others_at_once ≡ sum_by (toll_at_end ex sheet p col) others_at_once
+    others_then_are = ap (λ e. sum_by (toll_at_end e sheet p m.column.now) others_at_once) same
+        ∙ ap (λ c. sum_by (toll_at_end ex sheet p c) others_at_once) its
 
     -- what a step says of the rules
     pub step_breaks : GoesOn ex p (col ∷ []) → (r : ℕ)
@@ -164,15 +166,16 @@ module _ (ex : Exercise) (p : List (List Cell)) (col : List Cell) where
         alone false = refl
 
     -- what a step says of the charges
-    pub step_pays : GoesOn ex p (col ∷ []) → (charges tolls later : ℕ) → charges
-        ≡ sum_by (toll_then sheet p m) tolls_at_once + sum_by (λ rule. prices_then all_sets rule p m) rules_at_once
-        → tolls ≡ sum_by (toll_late ex sheet p col) late_tolls → later ≡ sum_by (prices_late ex p col) late_rules
-        → charges + tolls + later ≡ newly_paid ex sheet p col
-    step_pays on charges tolls later e t f =
-        together _ _ _ _ _ _ e t f tolls_then_are
+    pub step_pays : GoesOn ex p (col ∷ []) → (charges own tolls later : ℕ) → charges
+        ≡ sum_by (toll_then sheet p m) others_at_once + sum_by (λ rule. prices_then all_sets rule p m) rules_at_once
+        → own ≡ own_of ex sheet (length p) col → tolls ≡ sum_by (toll_late ex sheet p col) other_late_tolls
+        → later ≡ sum_by (prices_late ex p col) late_rules → charges + own + tolls + later ≡ newly_paid ex sheet p col
+    step_pays on charges own tolls later e o t f =
+        together _ _ _ _ _ _ _ _ _ e o t f others_then_are
         (sum_by-same (λ rule. prices_then all_sets rule p m) (prices_at_end ex p col) rules_at_once prices_then_are)
+        (own_apart ex sheet p col on)
         ∙ sym (newly_paid-parts ex p col sheet on)
       where
-        together : (a b c d e x : ℕ) → charges ≡ a + b → tolls ≡ x → later ≡ c → a ≡ d → b ≡ e → charges + tolls + later
-            ≡ d + x + (e + c)
-        together a b c d e x h t k g i = omega arith
+        together : (a b c d k x y soon late : ℕ) → charges ≡ a + b → own ≡ c → tolls ≡ d → later ≡ k → a ≡ x → b ≡ y
+            → soon + late ≡ x + c + d → charges + own + tolls + later ≡ soon + late + (y + k)
+        together a b c d k x y soon late e o t f g h i = omega arith

@@ -332,17 +332,23 @@ module _ (ex : Exercise) (p : List (List Cell)) (col : List Cell) where
     abbrev pub toll_settled : ℕ → ℕ
     toll_settled toll = sum_below (λ i. new_toll ex sheet p col i toll) (length p + 1)
 
-    -- of one that is settled at once, what it costs at the column's own place
-    toll-at_once : (toll : ℕ) → is_late_toll toll ≡ false → toll_settled toll ≡ toll_at_end ex sheet p col toll
-    toll-at_once toll n =
+    -- of one that a column settles alone, what it costs at the column's own place
+    pub toll-soon : (toll : ℕ)
+        → ((i : ℕ) (behind : List (List Cell)) (now : List Cell) (ahead : List (List Cell))
+        → cost_enough toll ex i behind now ahead ≡ true)
+        → toll_settled toll ≡ toll_at_end ex sheet p col toll
+    toll-soon toll soon =
         last_alone (λ i. new_toll ex sheet p col i toll) (length p)
         (λ i h. ap (λ b. if b then cost_at toll ex (p ++ col ∷ []) i * weight_of sheet toll else 0)
-        (newly_before (cost_enough toll ex) ((toll_keeps toll).at_once n ex) p col i h))
-        ∙ ap (λ b. if b then toll_at_end ex sheet p col toll else 0)
-        (newly_at_end (cost_enough toll ex) ((toll_keeps toll).at_once n ex) p col)
+        (newly_before (cost_enough toll ex) soon p col i h))
+        ∙ ap (λ b. if b then toll_at_end ex sheet p col toll else 0) (newly_at_end (cost_enough toll ex) soon p col)
+
+    -- so it is of one that is settled at once
+    toll-at_once : (toll : ℕ) → is_late_toll toll ≡ false → toll_settled toll ≡ toll_at_end ex sheet p col toll
+    toll-at_once toll n = toll-soon toll ((toll_keeps toll).at_once n ex)
 
     -- of a late one, after an orderly prefix, what it costs at its places
-    toll-late : (toll : ℕ) → is_late_toll toll ≡ true → GoesOn ex p (col ∷ []) → toll_settled toll
+    pub toll-late : (toll : ℕ) → is_late_toll toll ≡ true → GoesOn ex p (col ∷ []) → toll_settled toll
         ≡ toll_late ex sheet p col toll
     toll-late toll late on =
         sum_among-alone (λ i. new_toll ex sheet p col i toll) ((toll_at toll).first ex (length p))

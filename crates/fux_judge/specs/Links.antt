@@ -1,5 +1,5 @@
 -- What two neighboring columns decide by themselves.
-use Rattle.std.specs.Prelude.{◌≡◌, ◌≤◌, ℕ, ◌+◌, ◌*◌, Bool, true, false, ◌&&◌, List, [], ◌∷◌, map, reverse, Option, Some, None, IsSomeAnd, option_map, if◌then◌else◌}
+use Rattle.std.specs.Prelude.{◌≡◌, ◌≤◌, ℕ, ◌+◌, ◌*◌, ◌^◌, Bool, true, false, not, ◌&&◌, List, [], ◌∷◌, map, reverse, Option, Some, None, IsSomeAnd, option_map, if◌then◌else◌}
 use Rattle.std.specs.Borrow.{Bor}
 use Rattle.std.specs.List.{filter, list_any, sum_by}
 use Rattle.arrayvec.specs.ArrayVec.{ArrayVec}
@@ -12,7 +12,7 @@ pub use Rattle.rule_law.specs.RuleCrates.{is_of_neighbors}
 use Rattle.penalty_sheet.specs.declared.sheet.Sheet.{Sheet}
 use Rattle.penalty_sheet.specs.Weights.{weight_of}
 use Rattle.fux_judge.specs.Penalties.{is_strict_at}
-use Rattle.fux_judge.specs.Rules.{all_sets, breaks, costs, rule_at, rules_read, toll_at, tolls_read}
+use Rattle.fux_judge.specs.Rules.{all_sets, breaks, costs, late_tolls, rule_at, rules_read, toll_at, tolls_at_once, tolls_read}
 
 -- the column is enough, and the one before it is needed
 abbrev pub is_of_column : Kind → Bool
@@ -44,6 +44,14 @@ column_tolls = filter (λ toll. is_of_column (toll_at toll).kind) tolls_read
 
 unfoldable pub pair_tolls : List ℕ
 pair_tolls = filter (λ toll. is_of_pair (toll_at toll).kind) tolls_read
+
+-- of the tolls that are settled at once, and of the late ones, those that a column doesn't decide by
+-- itself
+unfoldable pub others_at_once : List ℕ
+others_at_once = filter (λ toll. not (is_of_column (toll_at toll).kind)) tolls_at_once
+
+unfoldable pub other_late_tolls : List ℕ
+other_late_tolls = filter (λ toll. not (is_of_column (toll_at toll).kind)) late_tolls
 
 -- the newest column of a history, where there is one
 abbrev pub newest_of : List (List Cell) → Option (List Cell)
@@ -92,11 +100,23 @@ link_of ex sheet i before next =
     if list_any (breaks_strictly ex i before next) rules_read then None
     else Some (sum_by (λ toll. cost_between ex i before next toll * weight_of sheet toll) tolls_read)
 
+-- what a toll costs a column, by weight, where nothing stands before it, and what its own tolls do:
+-- those of a column
+abbrev pub own_toll : Exercise → Sheet → ℕ → List Cell → ℕ → ℕ
+own_toll ex sheet i next toll = cost_between ex i None next toll * weight_of sheet toll
+
+abbrev pub own_of : Exercise → Sheet → ℕ → List Cell → ℕ
+own_of ex sheet i next = sum_by (own_toll ex sheet i next) column_tolls
+
+-- so much they cost it, which is no great number
+pub record IsOwnCost (ex : Exercise) (sheet : Sheet) (i : ℕ) (next : List Cell) (cost : ℕ) : Type 0 where
+  pub is : cost ≡ own_of ex sheet i next
+  pub small : cost ≤ 2 ^ 24
+
 -- what the rules and tolls of a column say of one, whatever stands before it
 unfoldable pub column_of : Exercise → Sheet → ℕ → List Cell → Option ℕ
 column_of ex sheet i next =
-    if list_any (breaks_strictly ex i None next) column_rules then None
-    else Some (sum_by (λ toll. cost_between ex i None next toll * weight_of sheet toll) column_tolls)
+    if list_any (breaks_strictly ex i None next) column_rules then None else Some (own_of ex sheet i next)
 
 -- whatever column stands before it, what the two cost, if they do, is no less than what is told;
 -- and then something is told

@@ -9,7 +9,8 @@ use Rattle.penalty_sheet.specs.declared.sheet.Sheet.{Sheet}
 use Rattle.penalty_sheet.specs.Weights.{weight_of}
 use Rattle.fux_judge.specs.declared.moment.Moment.{Moment}
 use Rattle.fux_judge.specs.Charges.{tolls_of_pairs}
-use Rattle.fux_judge.specs.Rules.{all_sets, is_broken, cost_at, rules_at_once, tolls_at_once}
+use Rattle.fux_judge.specs.Links.{others_at_once}
+use Rattle.fux_judge.specs.Rules.{all_sets, is_broken, cost_at, rules_at_once}
 use Rattle.fux_judge.specs.Penalties.{is_strict_at, price_read}
 use Rattle.fux_judge.specs.States.{IsStateOf}
 
@@ -60,7 +61,7 @@ toll_then sheet p m toll = cost_at toll m.exercise.now (with_column p m) (length
 abbrev pub pairs_then : Sheet → List (List Cell) → Moment → ℕ
 pairs_then sheet p m = sum_by (toll_then sheet p m) tolls_of_pairs
 
--- what the column pays of the tolls and rules that are settled at once
+-- what the column pays of the tolls and rules that are settled at once, but for its own tolls
 abbrev pub paid_at_once : Sheet → List (List Cell) → Moment → ℕ
 paid_at_once sheet p m =
-    sum_by (toll_then sheet p m) tolls_at_once + sum_by (λ rule. prices_then all_sets rule p m) rules_at_once
+    sum_by (toll_then sheet p m) others_at_once + sum_by (λ rule. prices_then all_sets rule p m) rules_at_once

@@ -5,7 +5,8 @@ ghost use Rattle.std.specs.List.{sum_by};
 ghost use Rattle.fux_grid.specs.Exercises.{IsValid, columns_in};
 ghost use Rattle.rule_law.specs.Rulebooks.{newly_costs};
 ghost use Rattle.fux_judge.specs.Penalties.{new_toll};
-ghost use Rattle.fux_judge.specs.Rules.{is_late_toll, late_tolls, toll_at};
+ghost use Rattle.fux_judge.specs.Links.{other_late_tolls};
+ghost use Rattle.fux_judge.specs.Rules.{is_late_toll, toll_at};
 ghost use Rattle.fux_judge.specs.Late.{TellsAtPlaceOfCost, TellsOfNewest};
 ghost use Rattle.fux_judge.specs.Steps as steps;
 ghost use Rattle.penalty_sheet.specs.Weights.{greatest_toll};
@@ -112,9 +113,9 @@ fn weighed_charges_of(toll: u8, sheet: &Sheet, ex: &Exercise, next: &State) -> u
     charges_of(toll, sheet, ex, next)
 }
 
-/// What the newest column settles of all late tolls. Each is asked by its own number, so that what
-/// depends on the number alone is settled before the program runs. Where neither a bar nor a note
-/// begins, Q16 alone may cost something. Q21 weighs nothing by the usual sheet.
+/// What the newest column settles of all late tolls but its own. Each is asked by its own number, so
+/// that what depends on the number alone is settled before the program runs. Where neither a bar nor
+/// a note begins, Q16 alone may cost something. Q21 weighs nothing by the usual sheet.
 #[inline(always)]
 #[tactic(auto, unfolding(crate::specs::Rules::toll_at))]
 pub(crate) fn late_charges(sheet: &Sheet, ex: &Exercise, next: &State) -> u64
@@ -122,20 +123,15 @@ pub(crate) fn late_charges(sheet: &Sheet, ex: &Exercise, next: &State) -> u64
     requires begun { 0 < next.now.newest.len }
     requires room { next.now.newest.len ≤ columns_in ex.now }
     ensures value { TellsOfNewest ex.now next.now
-        (λ p col. sum_by (steps.toll_late ex.now sheet.now p col) late_tolls) result }
-    ensures bound { result ≤ 94370400 }
+        (λ p col. sum_by (steps.toll_late ex.now sheet.now p col) other_late_tolls) result }
+    ensures bound { result ≤ 37748160 }
 {
     let i = next.newest.len - 1;
     if is_quiet(i, next.newest.at(i, ex.voices as usize)) {
         return charges_of(16, sheet, ex, next);
     }
-    charges_of(3, sheet, ex, next)
-        + charges_of(4, sheet, ex, next)
-        + charges_of(5, sheet, ex, next)
-        + charges_of(6, sheet, ex, next)
-        + charges_of(12, sheet, ex, next)
+    charges_of(12, sheet, ex, next)
         + charges_of(14, sheet, ex, next)
-        + charges_of(15, sheet, ex, next)
         + charges_of(16, sheet, ex, next)
         + weighed_charges_of(21, sheet, ex, next)
 }

@@ -6,7 +6,8 @@ ghost use Rattle.fux_grid.specs.declared.cell.Cell.{Cell as ACell};
 ghost use Rattle.fux_grid.specs.Columns.{line};
 ghost use Rattle.melody_rules.specs.Notes.{AreNotesOf};
 ghost use Rattle.fux_judge.specs.Charges.{leap_charge, move_charge, voice_charge};
-ghost use Rattle.fux_judge.specs.Rules.{cost_at, is_late_toll, tolls_at_once};
+ghost use Rattle.fux_judge.specs.Links.{others_at_once};
+ghost use Rattle.fux_judge.specs.Rules.{cost_at, is_late_toll};
 ghost use Rattle.fux_judge.specs.Moments.{IsAfter, IsReadable, pairs_then, toll_then, with_column};
 ghost use Rattle.penalty_sheet.specs.Weights.{greatest_toll};
 
@@ -109,16 +110,17 @@ pub(crate) fn charge_of_voice(sheet: &Sheet, m: &Moment<'_>, voice: usize) -> u6
         + charge_of_leap(sheet, &m.state.past.parts.first, voice, cell)
 }
 
-/// What the tolls that are settled at once cost together.
+/// What the tolls that are settled at once cost together, but for the column's own ones.
+#[tactic(auto, unfolding(crate::specs::Rules::toll_at))]
 pub(crate) fn charges(sheet: &Sheet, m: &Moment<'_>) -> u64
     requires { IsReadable m.now }
     ensures value { (p : List (List ACell)) → IsAfter p m.now → result
-        ≡ sum_by (toll_then sheet.now p m.now) tolls_at_once }
+        ≡ sum_by (toll_then sheet.now p m.now) others_at_once }
     ensures bound { result ≤ 7864200 }
 {
     charge_of_voice(sheet, m, 0)
         + charge_of_voice(sheet, m, 1)
         + charge_of_voice(sheet, m, 2)
         + charge_of_voice(sheet, m, 3)
-        + charges_of_pairs(sheet, m)
+        + charge(11, sheet, m)
 }

@@ -7,6 +7,7 @@ ghost use Rattle.fux_grid.specs.Menus.{IsInMenu};
 ghost use Rattle.rule_law.specs.Voices.{has_rule};
 ghost use Rattle.fux_judge.specs.Gauges.{least_of};
 ghost use Rattle.fux_judge.specs.Late.{HaveNoPlace};
+ghost use Rattle.fux_judge.specs.Links.{IsOwnCost};
 ghost use Rattle.fux_judge.specs.Rules.{rules_at_once};
 ghost use Rattle.fux_judge.specs.Penalties.{newly_paid, settles_break};
 ghost use Rattle.fux_judge.specs.Pruning.{IsToldColumn};
@@ -17,6 +18,7 @@ use crate::late::{late_prices, settles_late_break};
 use crate::late_tolls::late_charges;
 use crate::lines::least;
 use crate::numbers::all_at_once;
+use crate::own::known_charge;
 use crate::state::State;
 use crate::verdict::{any_of, moment_of, paid_now, readings};
 use fux_grid::{Column, Exercise};
@@ -43,12 +45,14 @@ pub struct Price {
 /// What a column that settles no strict break costs; none where it settles one, and then no more is
 /// read than tells so: nothing of late rules that are known to have no place there, and where it is
 /// told of a column of the menu what it keeps, and nothing is relaxed, of those settled at once S12
-/// alone. The state of the longer prefix is written into the place that is given.
+/// alone. What its own tolls cost the column isn't asked where it is known. The state of the longer
+/// prefix is written into the place that is given.
 pub fn step_unbroken(
     ex: &Exercise,
     sheet: &Sheet,
     idle: RuleSet,
     told: bool,
+    own: Option<u64>,
     state: &State,
     col: &Column,
     next: &mut State,
@@ -59,6 +63,7 @@ pub fn step_unbroken(
     requires idle { HaveNoPlace ex.now state.now.newest.len idle.bits }
     requires told { IsTrue told → IsToldColumn ex.now state.now col.now.items }
     requires menu { IsTrue told → IsInMenu ex.now state.now.newest.len col.now.items }
+    requires own { IfSome own (IsOwnCost ex.now sheet.now state.now.newest.len col.now.items) }
     ensures state { IfSome result (λ _. Grown ex.now state.now col.now.items
         (λ longer. IsStateOf ex.now longer next.new)) }
 
@@ -87,17 +92,19 @@ pub fn step_unbroken(
     if has_some(at_once) {
         return None;
     }
-    let paid = paid + late_charges(sheet, ex, next) + late_prices(ex, next);
+    let own = known_charge(own, ex, sheet, state.newest.len, col);
+    let paid = paid + own + late_charges(sheet, ex, next) + late_prices(ex, next);
     let least = least(ex, sheet, next);
     Some(Price { paid, least })
 }
 
 /// What a column costs that is known to settle no strict break, as a search knows of one that it
-/// comes back to: no rule is asked whether it is broken strictly. The state of the longer prefix is
-/// written into the place that is given.
+/// comes back to: no rule is asked whether it is broken strictly, nor what its own tolls cost the
+/// column. The state of the longer prefix is written into the place that is given.
 pub fn step_again(
     ex: &Exercise,
     sheet: &Sheet,
+    own: u64,
     state: &State,
     col: &Column,
     next: &mut State,
@@ -105,6 +112,7 @@ pub fn step_again(
     requires valid { IsValid ex.now }
     requires room { state.now.newest.len < columns_in ex.now }
     requires full { length col.now.items ≡ ex.now.voices }
+    requires own { IsOwnCost ex.now sheet.now state.now.newest.len col.now.items own }
     ensures state { Grown ex.now state.now col.now.items (λ longer. IsStateOf ex.now longer
         next.new) }
 
@@ -123,7 +131,7 @@ pub fn step_again(
     next.add(ex, col);
     let at_once = paid_now(sheet, &moment_of(ex, state, col));
     Price {
-        paid: at_once + late_charges(sheet, ex, next) + late_prices(ex, next),
+        paid: at_once + own + late_charges(sheet, ex, next) + late_prices(ex, next),
         least: least(ex, sheet, next),
     }
 }

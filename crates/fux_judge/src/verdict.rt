@@ -19,6 +19,7 @@ use crate::late_tolls::late_charges;
 use crate::lines::least;
 use crate::moment::Moment;
 use crate::numbers::{all_at_once, every_rule};
+use crate::own::own_charge;
 use crate::reading::{is_strictly_broken_now, prices_now};
 use crate::state::State;
 use crate::tolls::charges;
@@ -112,7 +113,7 @@ pub(crate) fn moment_of<'a>(ex: &'a Exercise<'a>, state: &'a State, col: &'a Col
 }
 
 /// The rules settled at once that the column breaks strictly, and what it costs of them and of such
-/// tolls. Where nothing begins, nothing is read, and what is told isn't asked.
+/// tolls, but for its own. Where nothing begins, nothing is read, and what is told isn't asked.
 #[inline(always)]
 pub(crate) fn readings(sheet: &Sheet, m: &Moment<'_>, told: bool) -> (RuleSet, u64)
     requires readable { IsReadable m.now }
@@ -130,8 +131,8 @@ pub(crate) fn readings(sheet: &Sheet, m: &Moment<'_>, told: bool) -> (RuleSet, u
     (broken_of(rules_left(m, told), m), paid)
 }
 
-/// What the column costs of the rules settled at once and of such tolls. Where nothing begins,
-/// nothing is read.
+/// What the column costs of the rules settled at once and of such tolls, but for its own. Where
+/// nothing begins, nothing is read.
 pub(crate) fn paid_now(sheet: &Sheet, m: &Moment<'_>) -> u64
     requires { IsReadable m.now }
     ensures paid { (p : List (List ACell)) → IsAfter p m.now → result ≡ paid_at_once sheet.now p
@@ -171,7 +172,8 @@ pub fn step(ex: &Exercise, sheet: &Sheet, state: &State, col: &Column) -> Verdic
     next.add(ex, col);
     let (at_once, paid) = readings(sheet, &moment, false);
     let broken = with_late(at_once, ex, &next);
-    let paid = paid + late_charges(sheet, ex, &next) + late_prices(ex, &next);
+    let own = own_charge(ex, sheet, state.newest.len, col);
+    let paid = paid + own + late_charges(sheet, ex, &next) + late_prices(ex, &next);
     let least = least(ex, sheet, &next);
     Verdict {
         state: next,

@@ -23,7 +23,9 @@ use crate::node::Node;
 use crate::walk::next_unpruned;
 use floor_tables::{TableFault, Tables, fill_tables};
 use fux_grid::{Column, Exercise, cells_follow};
-use fux_judge::{Price, State, idle_rules, is_always_dead, least, step_again, step_unbroken};
+use fux_judge::{
+    Price, State, idle_rules, is_always_dead, least, own_charge, step_again, step_unbroken,
+};
 use fux_pitch::Memory;
 use penalty_sheet::Sheet;
 use rule_law::RuleSet;
@@ -367,7 +369,16 @@ pub(crate) fn child_by(
         return None;
     }
     let next = &mut child.state;
-    let Some(price) = step_unbroken(exercise, sheet, idle, told, &node.state, column, next) else {
+    let Some(price) = step_unbroken(
+        exercise,
+        sheet,
+        idle,
+        told,
+        None,
+        &node.state,
+        column,
+        next,
+    ) else {
         return None;
     };
     child.paid = node.paid + price.paid;
@@ -398,7 +409,15 @@ fn child_again(
     ensures { IsMadeAgain (IsNodeOf exercise.now sheet.now) (live_at exercise.now sheet.now) k
         node.now child.new result }
 {
-    let Price { paid, least } = step_again(exercise, sheet, &node.state, column, &mut child.state);
+    let own = own_charge(exercise, sheet, node.state.newest.len, column);
+    let Price { paid, least } = step_again(
+        exercise,
+        sheet,
+        own,
+        &node.state,
+        column,
+        &mut child.state,
+    );
     child.paid = node.paid + paid;
     child.least = least;
     child.hint = k;

@@ -5,7 +5,7 @@ use Rattle.std.proofs.Math.Seq.{get_or-append_seam}
 use Rattle.std.proofs.lemmas.List.{length-append}
 use Rattle.rule_law.specs.Quiet.{is_quiet}
 use Rattle.fux_judge.specs.Steps.{toll_late}
-use Rattle.fux_judge.proofs.LateLemmas.{as_far, tolls_are}
+use Rattle.fux_judge.proofs.LateLemmas.{as_far, other_late_are}
 use Rattle.fux_judge.proofs.QuietTolls.{pattern_alone}
 use Rattle.fux_judge.proofs.late_tolls.late_charges.Goals as goal
 
@@ -28,14 +28,9 @@ pub returns-clause-value : goal.returns-clause-value
 returns-clause-value c = λ p col come.
     omega (
       arith,
-      ap (sum_by (toll_late c.args.ex.now c.args.sheet.now p col)) tolls_are,
+      ap (sum_by (toll_late c.args.ex.now c.args.sheet.now p col)) other_late_are,
       c.charges_of-2.ensures.value p col come,
       c.charges_of-3.ensures.value p col come,
       c.charges_of-4.ensures.value p col come,
-      c.charges_of-5.ensures.value p col come,
-      c.charges_of-6.ensures.value p col come,
-      c.charges_of-7.ensures.value p col come,
-      c.charges_of-8.ensures.value p col come,
-      c.charges_of-9.ensures.value p col come,
       c.weighed_charges_of.ensures.value p col come,
     )

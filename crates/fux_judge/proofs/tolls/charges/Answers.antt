@@ -6,4 +6,4 @@ returns-clause-value c = λ p after.
     charged_by_voices c.args.m.now.exercise.now c.args.sheet.now p c.args.m.now.column.now _ _ _ _ _
     (c.charge_of_voice.ensures.value p after) (c.charge_of_voice-2.ensures.value p after)
     (c.charge_of_voice-3.ensures.value p after) (c.charge_of_voice-4.ensures.value p after)
-    (c.charges_of_pairs.ensures.value p after)
+    (c.charge.ensures.value p after)

@@ -1,5 +1,6 @@
 use Rattle.std.proofs.Common.{◌+◌, ◌++◌, ◌∷◌, [], ap, sym, ◌∙◌}
 use Rattle.fux_judge.proofs.Grows.{paid_grows}
+use Rattle.fux_judge.specs.Links.{own_of}
 use Rattle.fux_judge.specs.Penalties.{paid}
 use Rattle.fux_judge.proofs.StepLemmas.{step_pays}
 use Rattle.fux_judge.proofs.unbroken.step_again.Goals as goal
@@ -9,8 +10,9 @@ returns-clause-settled c = λ p st on.
     let col = c.args.col.now.items in
     let m = c.moment_of.result in
     step_pays c.args.ex.now p col c.args.sheet.now m c.moment_of.ensures.exercise
-    c.moment_of.ensures.column on _ _ _
+    c.moment_of.ensures.column on _ _ _ _
     (c.paid_now-at_once.ensures.paid p (c.moment_of.ensures.after p st))
+    (c.requires.own.is ∙ ap (λ i. own_of c.args.ex.now c.args.sheet.now i col) st.newest.count)
     (c.late_charges.ensures.value p col record { reached = c.add.ensures.state p st; on = on })
     (c.late_prices.ensures.value p col record { reached = c.add.ensures.state p st; on = on })
 
@@ -21,8 +23,9 @@ returns-clause-paid c = λ p st on.
     paid_grows c.args.ex.now p col c.args.sheet.now
     ∙ ap (λ n. paid c.args.ex.now c.args.sheet.now p + n)
     (sym (step_pays c.args.ex.now p col c.args.sheet.now m c.moment_of.ensures.exercise
-    c.moment_of.ensures.column on _ _ _
+    c.moment_of.ensures.column on _ _ _ _
     (c.paid_now-at_once.ensures.paid p (c.moment_of.ensures.after p st))
+    (c.requires.own.is ∙ ap (λ i. own_of c.args.ex.now c.args.sheet.now i col) st.newest.count)
     (c.late_charges.ensures.value p col record { reached = c.add.ensures.state p st; on = on })
     (c.late_prices.ensures.value p col record { reached = c.add.ensures.state p st; on = on })))
 

@@ -1,5 +1,6 @@
 use Rattle.std.proofs.Common.{◌++◌, ◌∷◌, [], ◌+◌, ◌||◌, ◌==◌, ◌&&◌, ap, sym, true≢false, ◌∙◌}
 use Rattle.std.specs.List.{list_any}
+use Rattle.fux_judge.specs.Links.{own_of}
 use Rattle.fux_judge.specs.Penalties.{paid}
 use Rattle.fux_judge.proofs.Grows.{paid_grows}
 use Rattle.fux_judge.specs.Rules.{late_rules}
@@ -27,8 +28,9 @@ returns-clause-settled c = λ p st on.
     let col = c.args.col.now.items in
     let m = c.moment_of-moment.result in
     step_pays c.args.ex.now p col c.args.sheet.now m c.moment_of-moment.ensures.exercise
-    c.moment_of-moment.ensures.column on _ _ _
+    c.moment_of-moment.ensures.column on _ _ _ _
     (c.readings-paid.ensures.paid p after)
+    (c.own_charge-own.ensures.is ∙ ap (λ i. own_of c.args.ex.now c.args.sheet.now i col) st.newest.count)
     (c.late_charges.ensures.value p col record { reached = c.add.ensures.state p st; on = on })
     (c.late_prices.ensures.value p col record { reached = c.add.ensures.state p st; on = on })
 
@@ -40,8 +42,9 @@ returns-clause-paid c = λ p st on.
     paid_grows c.args.ex.now p col c.args.sheet.now
     ∙ ap (λ n. paid c.args.ex.now c.args.sheet.now p + n)
     (sym (step_pays c.args.ex.now p col c.args.sheet.now m c.moment_of-moment.ensures.exercise
-    c.moment_of-moment.ensures.column on _ _ _
+    c.moment_of-moment.ensures.column on _ _ _ _
     (c.readings-paid.ensures.paid p after)
+    (c.own_charge-own.ensures.is ∙ ap (λ i. own_of c.args.ex.now c.args.sheet.now i col) st.newest.count)
     (c.late_charges.ensures.value p col record { reached = c.add.ensures.state p st; on = on })
     (c.late_prices.ensures.value p col record { reached = c.add.ensures.state p st; on = on })))
 
