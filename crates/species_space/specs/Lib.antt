@@ -11,6 +11,7 @@ pub mod MixedLoads
 pub mod MixedMenus
 pub mod Naming
 pub mod Nodes
+pub mod Own
 pub mod Paths
 pub mod Task
 pub mod Trees

@@ -10,6 +10,7 @@ mod mixed;
 mod mixed_space;
 mod naming;
 mod node;
+mod own;
 mod space;
 mod walk;
 

@@ -128,6 +128,7 @@ impl<'a> MixedSpace<'a> {
             self.sheet,
             self.idle(node.state.len()),
             told,
+            None,
             node,
             k,
             column,

@@ -10,6 +10,7 @@ ghost use Rattle.std.specs.Bool.{OnFalse};
 ghost use Rattle.species_space.specs.Blocks.{AreBlocksOf, AreSound, AreUndead};
 ghost use Rattle.floor_tables.specs.Tables.{AreNarrow, IsRest, TellsWidth};
 ghost use Rattle.fux_judge.specs.Late.{HaveNoPlace};
+ghost use Rattle.fux_judge.specs.Links.{IsOwnCost};
 ghost use Rattle.species_space.specs.Grows.{paths_grow};
 ghost use Rattle.species_space.specs.Nodes.{FollowsBehind, IsNodeOf, IsTold};
 ghost use Rattle.species_space.specs.Chained.{IsRestWith};
@@ -20,12 +21,11 @@ ghost use Rattle.tree_search.specs.Space.{HasChild, HasLiveChild, IsMadeAgain, I
 use crate::blocks::{BlockMenu, Blocks, MenuView, column_at};
 use crate::columns::MenuColumns;
 use crate::node::Node;
+use crate::own::{OwnCosts, own_rows};
 use crate::walk::next_unpruned;
 use floor_tables::{TableFault, Tables, fill_tables};
 use fux_grid::{Column, Exercise, cells_follow};
-use fux_judge::{
-    Price, State, idle_rules, is_always_dead, least, own_charge, step_again, step_unbroken,
-};
+use fux_judge::{Price, State, idle_rules, is_always_dead, least, step_again, step_unbroken};
 use fux_pitch::Memory;
 use penalty_sheet::Sheet;
 use rule_law::RuleSet;
@@ -44,10 +44,13 @@ pub struct SpeciesSpace<'a> {
     pub(crate) tables: Tables<'a>,
     /// For each column what is known of its menu. The tables keep the columns themselves.
     pub(crate) menus: Vec<BlockMenu>,
+    /// For each column what its own tolls cost each column of its menu.
+    pub(crate) own: Vec<OwnCosts>,
 }
 
 impl<'a> Model for SpeciesSpace<'a> {
     ghost use Rattle.std.specs.Prelude.{◌≡◌};
+    ghost use Rattle.species_space.specs.Own.{AreOwnRows};
     ghost use Rattle.species_space.specs.Task.{Task, IsReady};
 
     ghost Value = { Task };
@@ -55,7 +58,8 @@ impl<'a> Model for SpeciesSpace<'a> {
     ghost view = { λ s. record { exercise = s.exercise.now; sheet = s.sheet.now } };
 
     ghost invariant = { λ s. IsReady s.exercise.now s.menus.items
-        × (s.tables ≡ record { exercise = s.exercise.now; sheet = s.sheet.now }) };
+        × (s.tables ≡ record { exercise = s.exercise.now; sheet = s.sheet.now })
+        × AreOwnRows s.exercise.now s.sheet.now s.own.items };
 }
 
 impl<'a> SpeciesSpace<'a> {
@@ -79,11 +83,15 @@ impl<'a> SpeciesSpace<'a> {
         let Ok(menus) = menus_of(alloc, exercise, &tables) else {
             return Err(TableFault::Memory);
         };
+        let Ok(own) = own_rows(alloc, exercise, sheet, &tables) else {
+            return Err(TableFault::Memory);
+        };
         Ok(SpeciesSpace {
             exercise,
             sheet,
             tables,
             menus,
+            own,
         })
     }
 
@@ -132,10 +140,21 @@ impl<'a> SpeciesSpace<'a> {
         self.menus[i].idle
     }
 
-    /// The column of a child with the least sum of the chains that go on from it; none where none
-    /// does.
+    /// What its own tolls cost the column of a number in the menu of column i.
     #[inline]
-    fn choice(&self, node: &Node, k: usize) -> Option<(&Column, u64)>
+    fn own(&self, i: usize, k: usize) -> u64
+        requires place { i < columns_in self.now.exercise }
+        requires within { k < length (menu_of self.now.exercise i) }
+        ensures { IsOwnCost self.now.exercise self.now.sheet i
+            (slice_index_or (menu_of self.now.exercise i) k []) result }
+    {
+        self.own[i].of(k)
+    }
+
+    /// The column of a child with the least sum of the chains that go on from it, and what its own
+    /// tolls cost it; none where no chain does.
+    #[inline]
+    fn choice(&self, node: &Node, k: usize) -> Option<(&Column, u64, u64)>
         requires { HasChild (IsNodeOf self.now.exercise self.now.sheet node.now)
             (columns_in self.now.exercise) (width_at self.now.exercise) k }
         ensures column { IfSome result (λ choice. choice.0.now.items
@@ -143,16 +162,18 @@ impl<'a> SpeciesSpace<'a> {
         ensures rest { IfSome result (λ choice. IsRest self.now.exercise self.now.sheet
             node.now.state.newest.len choice.0.now.items (Some choice.1)) }
         ensures small { IfSome result (λ choice. choice.1 ≤ 2 ^ 61) }
+        ensures own { IfSome result (λ choice. IsOwnCost self.now.exercise self.now.sheet
+            node.now.state.newest.len choice.0.now.items choice.2) }
         ensures none { IfNone result (IsRest self.now.exercise self.now.sheet node.now.state.newest.len
             (slice_index_or (menu_of self.now.exercise node.now.state.newest.len) k []) None) }
     {
         let i = node.state.len();
         let rest = self.tables.rest_of_number(i, k)?;
-        Some((self.tables.column(i, k), rest))
+        Some((self.tables.column(i, k), rest, self.own(i, k)))
     }
 
     /// The floor of a child, if it is live: then the child is written into the place that is given.
-    /// What is told of the child isn't asked again.
+    /// What is told of the child isn't asked again, nor what its own tolls cost its column.
     #[inline(always)]
     fn child_with(&self, node: &Node, k: usize, told: bool, child: &mut Node) -> Option<u64>
         requires child { HasChild (IsNodeOf self.now.exercise self.now.sheet node.now)
@@ -161,13 +182,14 @@ impl<'a> SpeciesSpace<'a> {
         ensures { IsMadeChild (IsNodeOf self.now.exercise self.now.sheet)
             (live_at self.now.exercise self.now.sheet) k node.now child.new result }
     {
-        let (column, rest) = self.choice(node, k)?;
+        let (column, rest, own) = self.choice(node, k)?;
         let idle = self.idle(node.state.len());
         child_by(
             self.exercise,
             self.sheet,
             idle,
             told,
+            Some(own),
             node,
             k,
             column,
@@ -224,10 +246,10 @@ impl<'a> Space for SpeciesSpace<'a> {
     }
 
     fn remake(&self, node: &Node, k: usize, child: &mut Node) -> u64 {
-        let Some((column, rest)) = self.choice(node, k) else {
+        let Some((column, rest, own)) = self.choice(node, k) else {
             return 0;
         };
-        child_again(self.exercise, self.sheet, node, k, column, rest, child)
+        child_again(self.exercise, self.sheet, own, node, k, column, rest, child)
     }
 
     fn is_last(&self, node: &Node, _k: usize) -> bool {
@@ -338,14 +360,15 @@ fn follows(exercise: &Exercise, told: bool, node: &Node, column: &Column) -> boo
 
 /// The floor of the child of this number and column, where the column follows and settles no strict
 /// break: what is to come behind it costs `rest` at least. Late rules that are known to have no
-/// place there aren't asked, nor what is told of the child. The child is written into the place that
-/// is given.
+/// place there aren't asked, nor what is told of the child, nor what its own tolls cost the column,
+/// where it is known. The child is written into the place that is given.
 #[inline(always)]
 pub(crate) fn child_by(
     exercise: &Exercise,
     sheet: &Sheet,
     idle: RuleSet,
     told: bool,
+    own: Option<u64>,
     node: &Node,
     k: usize,
     column: &Column,
@@ -357,6 +380,8 @@ pub(crate) fn child_by(
         (width_at exercise.now) k }
     requires idle { HaveNoPlace exercise.now node.now.state.newest.len idle.bits }
     requires told { IsTrue told → IsTold exercise.now node.now k }
+    requires own { IfSome own
+        (IsOwnCost exercise.now sheet.now node.now.state.newest.len column.now.items) }
     requires column { column.now.items
         ≡ slice_index_or (menu_of exercise.now node.now.state.newest.len) k [] }
     requires small { rest ≤ 2 ^ 61 }
@@ -374,7 +399,7 @@ pub(crate) fn child_by(
         sheet,
         idle,
         told,
-        None,
+        own,
         &node.state,
         column,
         next,
@@ -388,10 +413,12 @@ pub(crate) fn child_by(
 }
 
 /// The floor of the child of this number and column, which is known to be live: nothing is asked
-/// for breaks. The child is written into the place that is given.
+/// for breaks, nor what its own tolls cost the column. The child is written into the place that is
+/// given.
 fn child_again(
     exercise: &Exercise,
     sheet: &Sheet,
+    own: u64,
     node: &Node,
     k: usize,
     column: &Column,
@@ -403,13 +430,13 @@ fn child_again(
         (live_at exercise.now sheet.now) k }
     requires column { column.now.items
         ≡ slice_index_or (menu_of exercise.now node.now.state.newest.len) k [] }
+    requires own { IsOwnCost exercise.now sheet.now node.now.state.newest.len column.now.items own }
     requires rest { IsRest exercise.now sheet.now node.now.state.newest.len column.now.items
         (Some rest) }
     requires small { rest ≤ 2 ^ 61 }
     ensures { IsMadeAgain (IsNodeOf exercise.now sheet.now) (live_at exercise.now sheet.now) k
         node.now child.new result }
 {
-    let own = own_charge(exercise, sheet, node.state.newest.len, column);
     let Price { paid, least } = step_again(
         exercise,
         sheet,

@@ -12,11 +12,6 @@ use Rattle.species_space.proofs.Children.{as_long, made_of}
 use Rattle.species_space.proofs.Live.{path_is_alive}
 use Rattle.species_space.proofs.space.child_again.Goals as goal
 
-pub own_charge-own-requires-clause-place : goal.own_charge-own-requires-clause-place
-own_charge-own-requires-clause-place c =
-    let child = has_child (paths_grow c.args.exercise.now c.args.sheet.now) c.requires.child in
-    omega (arith, as_long c.args.exercise.now c.args.sheet.now c.args.node.now child.path child.at, child.above)
-
 pub step_again-paid-requires-clause-room : goal.step_again-paid-requires-clause-room
 step_again-paid-requires-clause-room c =
     let child = has_child (paths_grow c.args.exercise.now c.args.sheet.now) c.requires.child in

@@ -2,6 +2,7 @@ use Rattle.std.proofs.Common.{◌≡◌, ◌<◌, ℕ, Some, true, sym, ◌∙�
 use Rattle.fux_grid.specs.Exercises.{columns_in}
 use Rattle.floor_tables.specs.Tables.{IsRest, Task}
 use Rattle.fux_judge.specs.Late.{HaveNoPlace}
+use Rattle.fux_judge.specs.Links.{IsOwnCost}
 use Rattle.tree_search.specs.Space.{IsMadeChild}
 use Rattle.species_space.specs.Nodes.{IsNodeOf, IsTold}
 use Rattle.species_space.specs.Paths.{length-columns_on, live_at, prefix_at}
@@ -38,6 +39,13 @@ child_by-requires-clause-idle c =
 pub child_by-requires-clause-told : goal.child_by-requires-clause-told
 child_by-requires-clause-told c = λ yes.
     subst (λ (t : Task). IsTold t.exercise c.args.node.now c.args.k) (sym c.self.view_is) (c.requires.told yes)
+
+pub child_by-requires-clause-own : goal.child_by-requires-clause-own
+child_by-requires-clause-own c =
+    subst
+    (λ (t : Task). IsOwnCost t.exercise t.sheet c.args.node.now.state.newest.len c.in_ok-column.column.now.items
+    c.in_ok-column.own)
+    (sym c.self.view_is) c.in_ok-column.ensures.own
 
 pub returns : goal.returns
 returns c =

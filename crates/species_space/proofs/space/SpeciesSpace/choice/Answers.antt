@@ -3,6 +3,7 @@ use Rattle.fux_grid.specs.declared.cell.Cell.{Cell}
 use Rattle.fux_grid.specs.Exercises.{columns_in}
 use Rattle.fux_grid.specs.Menus.{menu_of}
 use Rattle.floor_tables.specs.Tables.{IsRest, Task}
+use Rattle.fux_judge.specs.Links.{IsOwnCost}
 use Rattle.species_space.specs.Paths.{prefix_at, length-columns_on}
 use Rattle.species_space.proofs.space.SpeciesSpace.choice.Goals as goal
 
@@ -60,6 +61,23 @@ column-requires-clause-within c =
     (c.len-i.ensures ex (prefix_at ex c.requires.path) c.requires.at.state ∙ length-columns_on ex 0 c.requires.path)
     c.requires.within
 
+pub own-requires-clause-place : goal.own-requires-clause-place
+own-requires-clause-place c =
+    let ex = c.args.self.now.exercise in
+    omega (
+      arith,
+      c.len-i.ensures ex (prefix_at ex c.requires.path) c.requires.at.state,
+      length-columns_on ex 0 c.requires.path,
+      c.requires.above,
+    )
+
+pub own-requires-clause-within : goal.own-requires-clause-within
+own-requires-clause-within c =
+    let ex = c.args.self.now.exercise in
+    subst (λ (n : ℕ). c.args.k < length (menu_of ex n))
+    (sym (c.len-i.ensures ex (prefix_at ex c.requires.path) c.requires.at.state ∙ length-columns_on ex 0 c.requires.path))
+    c.requires.within
+
 -- the place is where the node stands, and the tables are of the space's exercise
 pub returns-in_err-rest-clause-none : goal.returns-in_err-rest-clause-none
 returns-in_err-rest-clause-none c =
@@ -90,3 +108,15 @@ returns-clause-rest c =
     (sym (c.column.ensures ∙ column_of _ c.args.self.now c.len-i.result _ c.args.k view same))
     (rest_at _ c.args.self.now c.len-i.result _ c.args.k _ view same c.rest_of_number.ensures.rest
     (Some c.in_ok-rest.rest) c.in_ok-rest.was)
+
+pub returns-clause-own : goal.returns-clause-own
+returns-clause-own c =
+    let ex = c.args.self.now.exercise in
+    let sheet = c.args.self.now.sheet in
+    let i = c.args.node.now.state.newest.len in
+    let own = c.own.result in
+    let same : c.len-i.result ≡ i = c.len-i.ensures ex (prefix_at ex c.requires.path) c.requires.at.state
+    ∙ sym c.requires.at.state.newest.count in
+    subst (λ (col : List Cell). IsOwnCost ex sheet i col own)
+    (sym (c.column.ensures ∙ column_of _ c.args.self.now c.len-i.result _ c.args.k (c.self.invariant.1 ∙ c.self.view_is) same))
+    (subst (λ (n : ℕ). IsOwnCost ex sheet n (slice_index_or (menu_of ex n) c.args.k []) own) same c.own.ensures)
