@@ -48,7 +48,7 @@ costs_grow sheet f g (it ∷ rows) h =
     )
 
 -- and the same where each of them is
-costs_same : (sheet : Sheet) (f g : GaugeRow → ℕ) (rows : List GaugeRow) → AllByRecursion (λ it. f it ≡ g it) rows
+pub costs_same : (sheet : Sheet) (f g : GaugeRow → ℕ) (rows : List GaugeRow) → AllByRecursion (λ it. f it ≡ g it) rows
     → sum_by (λ it. f it * weight_of sheet it.number) rows ≡ sum_by (λ it. g it * weight_of sheet it.number) rows
 costs_same sheet f g [] h = refl
 costs_same sheet f g (it ∷ rows) h =

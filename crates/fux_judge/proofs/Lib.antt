@@ -30,6 +30,8 @@ pub mod SoundLemmas
 pub mod StateLemmas
 pub mod StepLemmas
 pub mod StepPlaces
+pub mod StillLemmas
+pub mod StillSteps
 pub mod SumLemmas
 pub mod ToldFinds
 pub mod ToldLemmas

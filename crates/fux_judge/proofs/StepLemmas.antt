@@ -88,7 +88,7 @@ some_at_once has test same =
 
 module _ (ex : Exercise) (p : List (List Cell)) (col : List Cell) where
   -- a strict break is of a rule that is settled at once, or of a late one
-  breaks_by_parts : GoesOn ex p (col ∷ []) → list_any (newly_broken ex p col) rules_read
+  pub breaks_by_parts : GoesOn ex p (col ∷ []) → list_any (newly_broken ex p col) rules_read
       ≡ (list_any (is_strictly_broken_at_end ex p col) rules_at_once || list_any (breaks_late ex p col) late_rules)
   breaks_by_parts on =
       read_in_parts (newly_broken ex p col)

@@ -15,5 +15,6 @@ pub mod Pruning
 pub mod Rules
 pub mod States
 pub mod Steps
+pub mod Still
 pub mod Told
 pub mod Verdicts

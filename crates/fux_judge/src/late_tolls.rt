@@ -113,6 +113,20 @@ fn weighed_charges_of(toll: u8, sheet: &Sheet, ex: &Exercise, next: &State) -> u
     charges_of(toll, sheet, ex, next)
 }
 
+/// What it settles of Q16.
+#[inline(always)]
+#[tactic(auto, unfolding(crate::specs::Rules::toll_at))]
+pub(crate) fn pattern_charge(sheet: &Sheet, ex: &Exercise, next: &State) -> u64
+    requires valid { IsValid ex.now }
+    requires begun { 0 < next.now.newest.len }
+    requires room { next.now.newest.len ≤ columns_in ex.now }
+    ensures value { TellsOfNewest ex.now next.now (λ p col. steps.toll_late ex.now sheet.now p col 16)
+        result }
+    ensures bound { result ≤ 9437040 }
+{
+    charges_of(16, sheet, ex, next)
+}
+
 /// What the newest column settles of all late tolls but its own. Each is asked by its own number, so
 /// that what depends on the number alone is settled before the program runs. Where neither a bar nor
 /// a note begins, Q16 alone may cost something. Q21 weighs nothing by the usual sheet.

@@ -5,7 +5,9 @@ ghost use Rattle.fux_grid.specs.declared.cell.Cell.{Cell as ACell};
 ghost use Rattle.fux_grid.specs.declared.exercise.Exercise.{Exercise as AnExercise};
 ghost use Rattle.fux_grid.specs.Columns.{newest_column};
 ghost use Rattle.fux_grid.specs.Exercises.{IsValid, columns_in};
+ghost use Rattle.fux_grid.specs.Menus.{IsInMenu};
 ghost use Rattle.fux_judge.specs.States.{IsStateOf};
+ghost use Rattle.fux_judge.specs.Still.{IsStillPlace};
 ghost use Rattle.fux_judge.specs.Verdicts.{Grown};
 
 use crate::ahead::{LineAhead, all_ahead_at_start, pass_all};
@@ -55,6 +57,25 @@ impl State {
         self.past.note(ex, i, cells);
         gauge_all(ex, i, &mut self.gauges, cells);
         pass_all(ex, i, &mut self.ahead, cells);
+        self.newest.push(cells);
+    }
+
+    /// Adds a column of the menu of a place at which nothing can begin: there what the gauges keep
+    /// stays, and what lies ahead of them.
+    #[inline(always)]
+    pub fn add_still(&mut self, ex: &Exercise, col: &Column)
+        requires valid { IsValid ex.now }
+        requires room { self.old.newest.len < columns_in ex.now }
+        requires full { length col.now.items ≡ ex.now.voices }
+        requires menu { IsInMenu ex.now self.old.newest.len col.now.items }
+        requires still { IsStillPlace ex.now self.old.newest.len }
+        ensures state { Grown ex.now self.old col.now.items (λ longer. IsStateOf ex.now longer
+            self.new) }
+        ensures length { self.new.newest.len ≡ self.old.newest.len + 1 }
+    {
+        let cells = col.as_slice();
+        let i = self.newest.len;
+        self.past.note(ex, i, cells);
         self.newest.push(cells);
     }
 

@@ -9,5 +9,6 @@ pub mod NamingLemmas
 pub mod Passing
 pub mod PathSteps
 pub mod ScoreSteps
+pub mod StillPlaces
 pub mod Trees
 pub mod WalkSteps

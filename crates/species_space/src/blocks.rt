@@ -19,7 +19,7 @@ pub struct Blocks {
     /// How long the blocks of each voice are.
     lengths: [u16; 4],
     /// Whether each cell of each column is a hold.
-    only_holds: bool,
+    pub(crate) only_holds: bool,
     /// Whether no cell of any column is a hold.
     without_holds: bool,
 }

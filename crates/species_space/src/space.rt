@@ -11,6 +11,7 @@ ghost use Rattle.species_space.specs.Blocks.{AreBlocksOf, AreSound, AreUndead};
 ghost use Rattle.floor_tables.specs.Tables.{AreNarrow, IsRest, TellsWidth};
 ghost use Rattle.fux_judge.specs.Late.{HaveNoPlace};
 ghost use Rattle.fux_judge.specs.Links.{IsOwnCost};
+ghost use Rattle.fux_judge.specs.Still.{IsStillPlace};
 ghost use Rattle.species_space.specs.Grows.{paths_grow};
 ghost use Rattle.species_space.specs.Nodes.{FollowsBehind, IsNodeOf, IsTold};
 ghost use Rattle.species_space.specs.Chained.{IsRestWith};
@@ -25,10 +26,13 @@ use crate::own::{OwnCosts, own_rows};
 use crate::walk::next_unpruned;
 use floor_tables::{TableFault, Tables, fill_tables};
 use fux_grid::{Column, Exercise, cells_follow};
-use fux_judge::{Price, State, idle_rules, is_always_dead, least, step_again, step_unbroken};
+use fux_judge::{
+    Price, State, again_still, idle_rules, is_always_dead, least, step_again, step_still,
+    step_unbroken,
+};
 use fux_pitch::Memory;
 use penalty_sheet::Sheet;
-use rule_law::RuleSet;
+use rule_law::{RuleSet, begins_bar};
 use std::alloc::Global;
 use std::marker::Model;
 use std::thread::Threads;
@@ -140,6 +144,18 @@ impl<'a> SpeciesSpace<'a> {
         self.menus[i].idle
     }
 
+    /// Whether nothing can begin at column i: no bar does, and each cell of its menu is a hold.
+    #[inline]
+    fn is_still(&self, i: usize) -> bool
+        requires { i < columns_in self.now.exercise }
+        ensures { IsTrue result → IsStillPlace self.now.exercise i }
+    {
+        if begins_bar(i) {
+            return false;
+        }
+        self.menus[i].blocks.only_holds
+    }
+
     /// What its own tolls cost the column of a number in the menu of column i.
     #[inline]
     fn own(&self, i: usize, k: usize) -> u64
@@ -183,7 +199,21 @@ impl<'a> SpeciesSpace<'a> {
             (live_at self.now.exercise self.now.sheet) k node.now child.new result }
     {
         let (column, rest, own) = self.choice(node, k)?;
-        let idle = self.idle(node.state.len());
+        let i = node.state.len();
+        let idle = self.idle(i);
+        if self.is_still(i) {
+            return child_still(
+                self.exercise,
+                self.sheet,
+                idle,
+                told,
+                node,
+                k,
+                column,
+                rest,
+                child,
+            );
+        }
         child_by(
             self.exercise,
             self.sheet,
@@ -249,6 +279,9 @@ impl<'a> Space for SpeciesSpace<'a> {
         let Some((column, rest, own)) = self.choice(node, k) else {
             return 0;
         };
+        if self.is_still(node.state.len()) {
+            return child_still_again(self.exercise, self.sheet, node, k, column, rest, child);
+        }
         child_again(self.exercise, self.sheet, own, node, k, column, rest, child)
     }
 
@@ -394,20 +427,53 @@ pub(crate) fn child_by(
         return None;
     }
     let next = &mut child.state;
-    let Some(price) = step_unbroken(
-        exercise,
-        sheet,
-        idle,
-        told,
-        own,
-        &node.state,
-        column,
-        next,
-    ) else {
+    let Some(price) = step_unbroken(exercise, sheet, idle, told, own, &node.state, column, next)
+    else {
         return None;
     };
     child.paid = node.paid + price.paid;
     child.least = price.least;
+    child.hint = k;
+    Some(child.paid + child.least + rest)
+}
+
+/// The same at a place at which nothing can begin: there late rules and Q16 alone speak of a column,
+/// and the lines cost at least what they did.
+#[inline(always)]
+fn child_still(
+    exercise: &Exercise,
+    sheet: &Sheet,
+    idle: RuleSet,
+    told: bool,
+    node: &Node,
+    k: usize,
+    column: &Column,
+    rest: u64,
+    child: &mut Node,
+) -> Option<u64>
+    requires valid { IsValid exercise.now }
+    requires child { HasChild (IsNodeOf exercise.now sheet.now node.now) (columns_in exercise.now)
+        (width_at exercise.now) k }
+    requires idle { HaveNoPlace exercise.now node.now.state.newest.len idle.bits }
+    requires told { IsTrue told → IsTold exercise.now node.now k }
+    requires still { IsStillPlace exercise.now node.now.state.newest.len }
+    requires column { column.now.items
+        ≡ slice_index_or (menu_of exercise.now node.now.state.newest.len) k [] }
+    requires small { rest ≤ 2 ^ 61 }
+    ensures { (chained : Bool) →
+        IsRestWith chained exercise.now sheet.now node.now.state.newest.len column.now.items rest →
+        IsMadeChild (IsNodeOf exercise.now sheet.now) (live_with chained exercise.now sheet.now) k
+        node.now child.new result }
+{
+    if !follows(exercise, told, node, column) {
+        return None;
+    }
+    let next = &mut child.state;
+    let Some(paid) = step_still(exercise, sheet, idle, &node.state, column, next) else {
+        return None;
+    };
+    child.paid = node.paid + paid;
+    child.least = node.least;
     child.hint = k;
     Some(child.paid + child.least + rest)
 }
@@ -449,6 +515,35 @@ fn child_again(
     child.least = least;
     child.hint = k;
     child.paid + least + rest
+}
+
+/// The same at a place at which nothing can begin.
+fn child_still_again(
+    exercise: &Exercise,
+    sheet: &Sheet,
+    node: &Node,
+    k: usize,
+    column: &Column,
+    rest: u64,
+    child: &mut Node,
+) -> u64
+    requires valid { IsValid exercise.now }
+    requires child { HasLiveChild (IsNodeOf exercise.now sheet.now node.now)
+        (live_at exercise.now sheet.now) k }
+    requires still { IsStillPlace exercise.now node.now.state.newest.len }
+    requires column { column.now.items
+        ≡ slice_index_or (menu_of exercise.now node.now.state.newest.len) k [] }
+    requires rest { IsRest exercise.now sheet.now node.now.state.newest.len column.now.items
+        (Some rest) }
+    requires small { rest ≤ 2 ^ 61 }
+    ensures { IsMadeAgain (IsNodeOf exercise.now sheet.now) (live_at exercise.now sheet.now) k
+        node.now child.new result }
+{
+    let paid = again_still(exercise, sheet, &node.state, column, &mut child.state);
+    child.paid = node.paid + paid;
+    child.least = node.least;
+    child.hint = k;
+    child.paid + child.least + rest
 }
 
 /// Whether a column of a menu is dead after every prefix. Where none is, all are sound.

@@ -1,0 +1,31 @@
+use Rattle.std.proofs.Common.{ℕ, ◌+◌, subst, arith, length, ap, sym, ◌∙◌}
+use Rattle.fux_grid.specs.Menus.{IsInMenu}
+use Rattle.fux_judge.specs.Penalties.{paid}
+use Rattle.fux_judge.specs.Still.{IsStillPlace}
+use Rattle.fux_judge.proofs.Grows.{paid_grows}
+use Rattle.fux_judge.proofs.StillLemmas.{least_still, still_is_quiet}
+use Rattle.fux_judge.proofs.StillSteps.{still_pays}
+use Rattle.fux_judge.proofs.still.again_still.Goals as goal
+
+pub returns-clause-settled : goal.returns-clause-settled
+returns-clause-settled c = λ p st on.
+    let ex = c.args.ex.now in
+    let col = c.args.col.now.items in
+    let still = subst (λ (i : ℕ). IsStillPlace ex i) st.newest.count c.requires.still in
+    let menu = subst (λ (i : ℕ). IsInMenu ex i col) st.newest.count c.requires.menu in
+    still_pays ex p col on (still_is_quiet ex (length p) still col menu) c.requires.valid.cantus_there c.args.sheet.now _ _
+    (c.pattern_charge.ensures.value p col record { reached = c.add_still.ensures.state p st; on = on })
+    (c.late_prices.ensures.value p col record { reached = c.add_still.ensures.state p st; on = on })
+
+pub returns-clause-paid : goal.returns-clause-paid
+returns-clause-paid c = λ p st on.
+    paid_grows c.args.ex.now p c.args.col.now.items c.args.sheet.now
+    ∙ ap (λ n. paid c.args.ex.now c.args.sheet.now p + n) (sym (returns-clause-settled c p st on))
+
+pub returns-clause-least : goal.returns-clause-least
+returns-clause-least c = λ p st prefix.
+    let ex = c.args.ex.now in
+    let col = c.args.col.now.items in
+    least_still ex p col (omega (arith, c.requires.room, st.newest.count))
+    (subst (λ (i : ℕ). IsStillPlace ex i) st.newest.count c.requires.still)
+    (subst (λ (i : ℕ). IsInMenu ex i col) st.newest.count c.requires.menu) c.args.sheet.now
