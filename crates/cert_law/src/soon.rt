@@ -56,17 +56,25 @@ pub fn told_break(
 }
 
 /// Whether a claim is soon told to be true of a prefix with a column more: it is of a rule that the
-/// column breaks.
-pub fn is_break_told(case: &Case<'_>, judged: &Judged, column: &Column, claim: Claim) -> bool
+/// column breaks. The least one that it breaks by itself may be given.
+pub fn is_break_told(
+    case: &Case<'_>,
+    judged: &Judged,
+    column: &Column,
+    alone: Option<u8>,
+    claim: Claim,
+) -> bool
     requires case { IsCase (matter_of case.now) }
     requires room { judged.now.state.newest.len < columns_in case.now.exercise.now }
     requires full { length column.now.items ≡ case.now.exercise.now.voices }
+    requires alone { IsAlone case.now.exercise.now judged.now.state.newest.len column.now.items
+        alone }
     ensures { OnTrue result (TellsBreak (matter_of case.now) judged.now column.now.items claim) }
 {
     let Claim::Broken(rule) = claim else {
         return false;
     };
-    if is_told_broken(case.exercise, &judged.state, column, rule) {
+    if is_told_broken(case.exercise, &judged.state, column, rule, alone) {
         return true;
     }
     false

@@ -163,8 +163,10 @@ fn judge_with<T: Tails>(
     if let Claim::NoChain = claim {
         return ends_with(case, tails, known, number);
     }
-    let column = tails.column(known.judged.state.newest.len, number);
-    if is_break_told(case, &known.judged, column, claim) {
+    let i = known.judged.state.newest.len;
+    let column = tails.column(i, number);
+    let alone = tails.alone(i, number);
+    if is_break_told(case, &known.judged, column, alone, claim) {
         return true;
     }
     judge_whole(case, tails, known, number, claim, found)

@@ -5,7 +5,7 @@ use Rattle.std.specs.Prelude.{Option, Some, None, cond, not}
 use Rattle.std.specs.List.{filter, find, list_all, list_any}
 use Rattle.std.proofs.Math.Seq.{get_or-append_seam}
 use Rattle.std.specs.Option.{option_or}
-use Rattle.std.proofs.lemmas.Bool.{eqb-true, not-true}
+use Rattle.std.proofs.lemmas.Bool.{and_from, eqb-true, not-true}
 use Rattle.std.proofs.lemmas.List.{length-append}
 use Rattle.std.proofs.lemmas.List.Folds.{find-append}
 use Rattle.fux_grid.specs.declared.cell.Cell.{Cell}
@@ -25,7 +25,7 @@ use Rattle.fux_judge.specs.Moments.{IsAfter, is_strictly_broken_then}
 use Rattle.fux_judge.specs.Penalties.{is_strict_at, newly_broken, newly_broken_at}
 use Rattle.fux_judge.specs.Rules.{all_sets, is_broken, is_late, is_of_melody, is_read, rule_at, rules_read}
 use Rattle.fux_judge.specs.Told.{first_rules, joint_rules, least_alone, least_newly_broken}
-use Rattle.fux_judge.proofs.AlwaysLemmas.{clashed, crossed, ended_apart, met}
+use Rattle.fux_judge.proofs.AlwaysLemmas.{breaks_here, clashed, crossed, ended_apart, met}
 use Rattle.fux_judge.proofs.KeptLemmas.{melody_kept, menu_kept}
 use Rattle.fux_judge.proofs.StepPlaces.{newly_broken-at_once, newly_broken-late}
 
@@ -231,6 +231,33 @@ module _ (p : List (List Cell)) (m : Moment) (after : IsAfter p m) where
     late_joint high t =
         ap (find test) joint_are
         ∙ late_first (test 10) (test 11) (test 12) (test 13) (test 14) rule (found_alone rule e) high t
+
+-- what holds of each of the four where it is the one that is found holds of the one that is found
+of_found : (P : ℕ → Type 0) (a b c d : Bool) (rule : ℕ) → first_of_four a b c d ≡ Some rule → (a ≡ true → P 10)
+    → (b ≡ true → P 11) → (c ≡ true → P 13) → (d ≡ true → P 14) → P rule
+of_found P true b c d rule e pa pb pc pd = let n : 10 ≡ rule = cc in subst P n (pa refl)
+of_found P false true c d rule e pa pb pc pd = let n : 11 ≡ rule = cc in subst P n (pb refl)
+of_found P false false true d rule e pa pb pc pd = let n : 13 ≡ rule = cc in subst P n (pc refl)
+of_found P false false false true rule e pa pb pc pd = let n : 14 ≡ rule = cc in subst P n (pd refl)
+of_found P false false false false rule e pa pb pc pd = cc
+
+-- of the least rule that a column breaks by itself it settles a strict break after each prefix
+pub alone_newly : (ex : Exercise) (p : List (List Cell)) (col : List Cell) (rule : ℕ)
+    → least_alone ex (length p) col ≡ Some rule → (is_read rule && newly_broken ex p col rule) ≡ true
+unfolding least_alone
+alone_newly ex p col rule e =
+    let alone : ℕ → Bool = breaks_strictly ex (length p) None col in
+    of_found (λ r. (is_read r && newly_broken ex p col r) ≡ true) (alone 10) (alone 11) (alone 13) (alone 14) rule e
+    (λ h. settled 10 refl (crossed ex p col ∙ h))
+    (λ h. settled 11 refl (met ex p col ∙ h))
+    (λ h. settled 13 refl (ended_apart ex p col ∙ h))
+    (λ h. settled 14 refl (clashed ex p col ∙ h))
+  where
+    settled : (r : ℕ) → list_any (λ y. y == r) first_rules ≡ true → breaks_here ex p col r ≡ true
+        → (is_read r && newly_broken ex p col r) ≡ true
+    settled r among h =
+        and_from (is_read r) (newly_broken ex p col r) (told_is_read r among)
+        (newly_broken-at_once ex p col r (told_at_once r among) ∙ h)
 
 -- ---- S3
 

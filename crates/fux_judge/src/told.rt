@@ -178,14 +178,28 @@ pub fn told_rule(
 }
 
 /// Whether a column settles a strict break of a rule, where that is soon told. Where it answers no,
-/// it may settle one all the same.
-pub fn is_told_broken(ex: &Exercise, state: &State, col: &Column, rule: u8) -> bool
+/// it may settle one all the same. It is told at once where that is the rule given as the least that
+/// the column breaks by itself.
+pub fn is_told_broken(
+    ex: &Exercise,
+    state: &State,
+    col: &Column,
+    rule: u8,
+    alone: Option<u8>,
+) -> bool
     requires valid { IsValid ex.now }
     requires room { state.now.newest.len < columns_in ex.now }
     requires full { length col.now.items ≡ ex.now.voices }
+    requires alone { IfSome alone (λ rule. least_alone ex.now state.now.newest.len col.now.items
+        ≡ Some rule) }
     ensures { OnTrue result (GoingOn ex.now state.now col.now.items
         (λ p added. (is_read rule && newly_broken ex.now p added rule) ≡ true)) }
 {
+    if let Some(least) = alone {
+        if least == rule {
+            return true;
+        }
+    }
     if !told_rules().contains(&rule) {
         return false;
     }

@@ -1,11 +1,14 @@
-use Rattle.std.proofs.Common.{◌≡◌, ◌++◌, ◌∷◌, [], IsTrue, List, length, refl, ap, sym, ◌∙◌, subst}
+use Rattle.std.proofs.Common.{◌≡◌, ◌++◌, ◌∷◌, [], IsTrue, List, length, slice_index_or, refl, ap, sym, ◌∙◌, subst}
 use Rattle.std.specs.Prelude.{◌↔◌}
 use Rattle.std.proofs.lemmas.Bool.{OnTrue_at}
+use Rattle.cert_law.specs.Alone.{IsAlone}
 use Rattle.cert_law.specs.Cases.{matter_of}
 use Rattle.cert_law.specs.Known.{column_after, tailed_of, tree_in}
 use Rattle.cert_law.proofs.KnownLemmas.{step_column, step_full, step_goes_on, step_place, step_room, step_within}
 use Rattle.cert_text.specs.declared.claim.Claim.{Claim}
 use Rattle.fux_grid.specs.declared.cell.Cell.{Cell}
+use Rattle.fux_grid.specs.declared.exercise.Exercise.{Exercise}
+use Rattle.fux_grid.specs.Menus.{menu_of}
 use Rattle.rule_law.specs.Prefixes.{GoesOn}
 use Rattle.cert_law.proofs.tailed.judge_with.Goals as goal
 
@@ -20,6 +23,27 @@ column-column-requires-clause-within g c =
     let basis = g.T.Tails.basis c.args.tails.now in
     step_within (tailed_of (matter_of c.args.case.now) basis) basis c.args.known.now c.args.number c.requires.case
     c.requires.tails c.requires.step
+
+pub alone-alone-requires-clause-place : goal.alone-alone-requires-clause-place
+alone-alone-requires-clause-place g c =
+    let basis = g.T.Tails.basis c.args.tails.now in
+    step_place (tailed_of (matter_of c.args.case.now) basis) basis c.args.known.now c.args.number c.requires.case
+    c.requires.tails c.requires.step
+
+pub alone-alone-requires-clause-within : goal.alone-alone-requires-clause-within
+alone-alone-requires-clause-within g c =
+    let basis = g.T.Tails.basis c.args.tails.now in
+    step_within (tailed_of (matter_of c.args.case.now) basis) basis c.args.known.now c.args.number c.requires.case
+    c.requires.tails c.requires.step
+
+pub is_break_told-requires-clause-alone : goal.is_break_told-requires-clause-alone
+is_break_told-requires-clause-alone g c =
+    let basis = g.T.Tails.basis c.args.tails.now in
+    let i = c.args.known.now.judged.state.newest.len in
+    let alone = c.alone-alone.result in
+    subst (λ (col : List Cell). IsAlone c.args.case.now.exercise.now i col alone) (sym c.column-column.ensures)
+    (subst (λ (ex : Exercise). IsAlone ex i (slice_index_or (menu_of basis.exercise i) c.args.number []) alone)
+    c.requires.tails.exercise c.alone-alone.ensures)
 
 pub is_break_told-requires-clause-room : goal.is_break_told-requires-clause-room
 is_break_told-requires-clause-room g c =

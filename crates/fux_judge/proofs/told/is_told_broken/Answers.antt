@@ -1,11 +1,22 @@
-use Rattle.std.proofs.Common.{◌≡◌, ◌==◌, true, ap, sym, ◌∙◌}
+use Rattle.std.proofs.Common.{◌≡◌, ℕ, ◌==◌, Option, true, ap, sym, ◌∙◌, subst, arith}
+use Rattle.std.specs.Prelude.{IfSome, Some}
 use Rattle.std.specs.List.{list_any}
 use Rattle.std.proofs.lemmas.Bool.{and_from}
 use Rattle.fux_judge.specs.Penalties.{newly_broken}
 use Rattle.fux_judge.specs.Rules.{is_read}
-use Rattle.fux_judge.specs.Told.{first_rules}
-use Rattle.fux_judge.proofs.ToldLemmas.{strictly_newly, told_at_once, told_is_read}
+use Rattle.fux_judge.specs.Told.{first_rules, least_alone}
+use Rattle.fux_judge.proofs.ToldLemmas.{alone_newly, strictly_newly, told_at_once, told_is_read}
 use Rattle.fux_judge.proofs.told.is_told_broken.Goals as goal
+
+pub returns-then-least-rule : goal.returns-then-least-rule
+returns-then-least-rule c = λ p st on.
+    let ex = c.args.ex.now in
+    let col = c.args.col.now.items in
+    let given = subst (λ (o : Option ℕ). IfSome o (λ r. least_alone ex c.args.state.now.newest.len col ≡ Some r))
+    c.in-Some.is c.requires.alone in
+    let same : c.in-Some.least ≡ c.args.rule = omega (arith, c.if-least-rule.true) in
+    alone_newly ex p col c.args.rule
+    (ap (λ n. least_alone ex n col) (sym st.newest.count) ∙ given ∙ ap Some same)
 
 pub is_strictly_broken_now-requires-clause-rule : goal.is_strictly_broken_now-requires-clause-rule
 is_strictly_broken_now-requires-clause-rule c =
