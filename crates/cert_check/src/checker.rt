@@ -18,13 +18,13 @@ use cert_file::{Checks, refused_by};
 use cert_law::{Case, PrefixKnown, TailedCase, Tails};
 use cert_text::{Accepted, CertHead, Claim, Refused, Why};
 use cert_tree::{Judging, begin, feed, finish};
-use floor_tables::{TableFault, Tables, fill_tables};
+use floor_tables::Tables;
 use fux_grid::{Exercise, Place};
 use fux_pitch::Memory;
+use menu_tails::MenuTails;
 use penalty_sheet::Sheet;
 use std::alloc::{AllocError, Global};
 use std::marker::Model;
-use std::thread::Threads;
 
 /// Why a checker isn't opened.
 #[derive(Clone, Copy, Debug, PartialEq, Eq)]
@@ -99,39 +99,37 @@ fn begun<T: Tails>(
     begin(alloc, &TailedCase::new(case, tails))
 }
 
-impl<'a> Checker<'a, Tables<'a>> {
-    /// A checker of the claims of a certificate of the first form with this head. All memory is
-    /// taken here.
-    pub fn open<R: Threads + Sync>(
-        rt: &R,
+impl<'a> Checker<'a, MenuTails<'a>> {
+    /// A checker of the claims of a certificate of the first form with this head, by tables that are
+    /// filled. All memory more is taken here.
+    pub fn open(
         alloc: Global,
         ex: &'a Exercise<'a>,
         sheet: &'a Sheet,
         head: CertHead,
-    ) -> Result<Checker<'a, Tables<'a>>, OpenFault>
-        requires { IsValid ex.now }
+        tables: &'a Tables<'a>,
+    ) -> Result<Checker<'a, MenuTails<'a>>, OpenFault>
+        requires valid { IsValid ex.now }
+        requires narrow { AreNarrow ex.now }
+        requires same { tables.now ≡ record { exercise = ex.now; sheet = sheet.now } }
         ensures opened { IfOk result (λ c. c ≡ opened_for ex.entry.now sheet.entry.now head
             (Numbers None)) }
 
-        // Width comes first; then the head is judged, before any claim.
-        ensures narrow { OnOk result (AreNarrow ex.entry.now) }
+        // The head is judged before any claim.
         ensures sound { OnOk result (IsHeadSound ex.entry.now sheet.entry.now head) }
         ensures fault { IfErr result (TellsWhy ex.entry.now sheet.entry.now head) }
     {
-        let tables = match fill_tables(rt, alloc, ex, sheet) {
-            Ok(tables) => tables,
-            Err(TableFault::TooWide { place, count }) => {
-                return Err(OpenFault::TooWide { place, count });
-            }
-            Err(TableFault::Memory) => return Err(OpenFault::Memory),
-        };
         if !is_sound(ex, sheet, &head) {
             return Err(OpenFault::Refused(Refused {
                 number: 0,
                 why: Why::Head,
             }));
         }
-        match Checker::opened(alloc, ex, sheet, head, tables) {
+        let tails = match MenuTails::new(alloc, ex, tables) {
+            Ok(tails) => tails,
+            Err(Memory) => return Err(OpenFault::Memory),
+        };
+        match Checker::opened(alloc, ex, sheet, head, tails) {
             Ok(checker) => Ok(checker),
             Err(Memory) => Err(OpenFault::Memory),
         }

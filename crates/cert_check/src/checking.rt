@@ -26,6 +26,7 @@ use crate::stated::{CloseFault, Stated};
 use cert_file::{Pieces, ReadFault, Reader, StatedReader, Verdict, judge};
 use cert_law::Tails;
 use cert_text::{CertFault, CertHead, Form};
+use floor_tables::{TableFault, fill_tables};
 use fux_grid::{Exercise, Place};
 use fux_pitch::Memory;
 use fux_port::{Failed, Shelf};
@@ -149,7 +150,14 @@ fn check_first<R: Threads + Sync, F: Shelf>(
     ensures files { F.files shelf.new ≡ F.files shelf.old }
     ensures faults { F.faults shelf.old ≤ F.faults shelf.new }
 {
-    let checker = match Checker::open(rt, alloc, ex, sheet, head) {
+    let tables = match fill_tables(rt, alloc, ex, sheet) {
+        Ok(tables) => tables,
+        Err(TableFault::TooWide { place, count }) => {
+            return Err(CheckFault::TooWide { place, count });
+        }
+        Err(TableFault::Memory) => return Err(CheckFault::Memory),
+    };
+    let checker = match Checker::open(alloc, ex, sheet, head, &tables) {
         Ok(checker) => checker,
         Err(fault) => return not_opened(fault),
     };

@@ -8,18 +8,18 @@ ghost use Rattle.cert_writer.specs.Writing.{IsTask};
 ghost use Rattle.fux_grid.specs.Exercises.{columns_in};
 
 use crate::lines::{Lines, Stage};
-use crate::tails::SpaceTails;
 use cert_law::{Case, TailedCase};
 use cert_text::Form;
 use cert_tree::{begin_again, room_for_walk};
 use fux_pitch::Memory;
+use menu_tails::MenuTails;
 use std::alloc::Global;
 
 /// The room of the lines of a certificate, of which none is still to come.
 pub(crate) fn room_for_lines(
     alloc: Global,
     case: &Case<'_>,
-    tables: &SpaceTails<'_>,
+    tables: &MenuTails<'_>,
 ) -> Result<Lines, Memory>
     requires { IsTask (matter_of case.now) tables.now }
     ensures { IfOk result (λ lines. vec_capacity lines.walk.levels
@@ -44,7 +44,7 @@ fn first_stage(form: Form) -> Stage
 }
 
 /// Starts behind the text of a head, from the empty prefix, in the room of lines.
-pub(crate) fn begin(lines: &mut Lines, form: Form, case: &Case<'_>, tables: &SpaceTails<'_>)
+pub(crate) fn begin(lines: &mut Lines, form: Form, case: &Case<'_>, tables: &MenuTails<'_>)
     requires task { IsTask (matter_of case.now) tables.now }
     requires room { vec_capacity lines.old.walk.levels ≡ columns_in case.now.exercise.now }
     ensures { Begins (matter_of case.now) form lines.new }

@@ -21,13 +21,13 @@ use crate::begin::{begin, room_for_lines};
 use crate::copy::head_of;
 use crate::head::head_text;
 use crate::lines::Lines;
-use crate::tails::SpaceTails;
 use crate::write::{is_within, write_parts};
 use cert_law::{Case, weights_are_small};
 use cert_text::{CertHead, CertWrite, Form};
 use claim_writer::{KeptLines, write_kept};
 use fux_grid::{Exercise, Score};
 use fux_port::{Failed, Sink};
+use menu_tails::MenuTails;
 use penalty_sheet::Sheet;
 use species_space::SpeciesSpace;
 use std::alloc::Global;
@@ -38,7 +38,7 @@ fn write_counted<K: Sink>(
     lines: &mut Lines,
     form: Form,
     case: &Case<'_>,
-    tables: &SpaceTails<'_>,
+    tables: &MenuTails<'_>,
     kept: &KeptLines,
     text: &str,
     sink: &mut K,
@@ -67,7 +67,7 @@ pub(crate) fn write_for_head<K: Sink>(
     alloc: Global,
     ex: &Exercise,
     sheet: &Sheet,
-    tables: &SpaceTails<'_>,
+    tables: &MenuTails<'_>,
     form: Form,
     head: &CertHead,
     sink: &mut K,
@@ -159,11 +159,12 @@ pub fn certify_form<K: Sink>(
 {
     let exercise = space.exercise();
     let sheet = space.sheet();
+    let kept = space.tables();
     weights_are_small(sheet);
     let Ok(head) = head_of(alloc, best) else {
         return Err(CertWrite::Memory);
     };
-    let Ok(tables) = SpaceTails::new(alloc, space) else {
+    let Ok(tables) = MenuTails::new(alloc, exercise, kept) else {
         return Err(CertWrite::Memory);
     };
     write_for_head(alloc, exercise, sheet, &tables, form, &head, sink)

@@ -9,18 +9,18 @@ ghost use Rattle.cert_writer.specs.Writing.{IsTask, IsWriting, to_come};
 
 use crate::entries::{column_entry, stage_after, stage_from, start_entry};
 use crate::lines::{Lines, Stage};
-use crate::tails::SpaceTails;
 use arrayvec::ArrayString;
 use cert_law::{Case, PrefixKnown, TailedCase};
 use cert_text::{Claim, write_claim, write_potential};
 use cert_tree::Walk;
 use floor_tables::Tables;
+use menu_tails::MenuTails;
 
 /// The claim that comes next.
 fn next_claim(
     walk: &mut Walk<PrefixKnown>,
     case: &Case<'_>,
-    tables: &SpaceTails<'_>,
+    tables: &MenuTails<'_>,
 ) -> Option<Claim>
     requires task { IsTask (matter_of case.now) tables.now }
     requires writing { IsWriting (matter_of case.now) walk.old }
@@ -73,7 +73,7 @@ fn next_stated(stage: &mut Stage, case: &Case<'_>, tables: &Tables<'_>) -> Optio
 pub(crate) fn next_line(
     lines: &mut Lines,
     case: &Case<'_>,
-    tables: &SpaceTails<'_>,
+    tables: &MenuTails<'_>,
 ) -> Option<ArrayString<13>>
     requires task { IsTask (matter_of case.now) tables.now }
     requires lines { AreLines (matter_of case.now) lines.old }

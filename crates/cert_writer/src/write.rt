@@ -11,11 +11,11 @@ ghost use Rattle.fux_port.specs.Written.{StopsShort, appended};
 
 use crate::lines::Lines;
 use crate::next::next_line;
-use crate::tails::SpaceTails;
 use arrayvec::ArrayString;
 use cert_law::Case;
 use claim_writer::KeptLines;
 use fux_port::{Failed, Sink, put, write_all};
+use menu_tails::MenuTails;
 
 /// The most bytes that a certificate may have.
 const MOST_BYTES: usize = 1_073_741_824;
@@ -25,7 +25,7 @@ const MOST_BYTES: usize = 1_073_741_824;
 fn fit(
     lines: &mut Lines,
     case: &Case<'_>,
-    tables: &SpaceTails<'_>,
+    tables: &MenuTails<'_>,
     kept: &mut KeptLines,
     room: usize,
 ) -> bool
@@ -54,7 +54,7 @@ fn fit(
 pub(crate) fn is_within(
     lines: &mut Lines,
     case: &Case<'_>,
-    tables: &SpaceTails<'_>,
+    tables: &MenuTails<'_>,
     kept: &mut KeptLines,
     size: usize,
 ) -> bool
@@ -73,7 +73,7 @@ pub(crate) fn is_within(
 pub(crate) fn write_lines<K: Sink>(
     lines: &mut Lines,
     case: &Case<'_>,
-    tables: &SpaceTails<'_>,
+    tables: &MenuTails<'_>,
     sink: &mut K,
 ) -> Result<(), Failed>
     requires task { IsTask (matter_of case.now) tables.now }
@@ -98,7 +98,7 @@ pub(crate) fn write_lines<K: Sink>(
 pub(crate) fn write_parts<K: Sink>(
     lines: &mut Lines,
     case: &Case<'_>,
-    tables: &SpaceTails<'_>,
+    tables: &MenuTails<'_>,
     text: &str,
     sink: &mut K,
 ) -> Result<(), Failed>

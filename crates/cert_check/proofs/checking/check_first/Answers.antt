@@ -34,14 +34,14 @@ pub judge_claims-requires-clause-opened : goal.judge_claims-requires-clause-open
 judge_claims-requires-clause-opened g c =
     let files = g.F.Shelf.files c.args.shelf.now in
     subst (λ (k : Checking Asked Opening (List (List Cell))). IsOpened (IsOpeningText k.asked.exercise) files c.args.name.now k.head c.behind.result)
-    (sym c.in-Ok.ensures.opened)
+    (sym c.in-Ok-open.ensures.opened)
     (subst (λ (r : Reading). IsOpened (IsOpeningText c.args.ex.now) files c.args.name.now (record { head = c.args.head; stated = Numbers None }) r)
     (sym c.behind.ensures)
     (first_opened c.args.ex.now files c.args.name.now c.args.head c.args.pieces c.requires.started))
 
 pub judge_claims-requires-clause-fresh : goal.judge_claims-requires-clause-fresh
 judge_claims-requires-clause-fresh g c =
-    subst (λ (k : Checking Asked Opening (List (List Cell))). k ≡ opened_at k.asked k.head []) (sym c.in-Ok.ensures.opened) refl
+    subst (λ (k : Checking Asked Opening (List (List Cell))). k ≡ opened_at k.asked k.head []) (sym c.in-Ok-open.ensures.opened) refl
 
 -- ---- how much is read
 
@@ -64,4 +64,4 @@ returns-clause-near g c =
     (subst
     (λ (k : Checking Asked Opening (List (List Cell))). IfOk c.judge_claims.result
     (ReadsNear (setting_subject k.asked) k.head files name before (past + offset)))
-    c.in-Ok.ensures.opened c.judge_claims.ensures.near)
+    c.in-Ok-open.ensures.opened c.judge_claims.ensures.near)

@@ -10,6 +10,15 @@ use Rattle.fux_grid.specs.Exercises.{IsValid}
 use Rattle.penalty_sheet.specs.declared.sheet.Sheet.{Sheet}
 use Rattle.cert_writer.proofs.certificate.certify_form.Goals as goal
 
+pub new-requires : goal.new-requires
+new-requires g c =
+    let there = c.exercise-exercise.ensures.value in
+    record {
+      valid = subst IsValid (sym there) c.exercise-exercise.ensures.valid;
+      narrow = subst AreNarrow (sym there) c.tables-kept.ensures.narrow;
+      same = ap (λ (t : Task). t.exercise) c.tables-kept.ensures.value ∙ sym there;
+    }
+
 pub write_for_head-requires : goal.write_for_head-requires
 write_for_head-requires g c =
     let ex : Exercise = c.exercise-exercise.result.now in
@@ -17,7 +26,7 @@ write_for_head-requires g c =
     let head : CertHead = c.in-Ok.head in
     let there = c.exercise-exercise.ensures.value in
     let its = c.sheet-sheet.ensures in
-    let same : c.in-Ok-new.tables ≡ c.args.space.now = c.in-Ok-new.ensures.value in
+    let same : c.in-Ok-new.tables ≡ c.args.space.now = c.in-Ok-new.ensures ∙ c.tables-kept.ensures.value in
     let holds : Holds ex sheet head =
     subst (λ (e : Exercise). Holds e sheet head) (sym there)
     (subst (λ (s : Sheet). Holds c.args.space.now.exercise s head) (sym its)
@@ -33,7 +42,7 @@ write_for_head-requires g c =
         has = record {
           exercise = ap (λ (t : Task). t.exercise) same ∙ sym there;
           sheet = ap (λ (t : Task). t.sheet) same ∙ sym its;
-          narrow = subst AreNarrow (sym there) c.in-Ok-new.ensures.narrow;
+          narrow = subst AreNarrow (sym there) c.tables-kept.ensures.narrow;
         };
         small = c.weights_are_small.ensures;
         holds = holds;
