@@ -10,11 +10,11 @@ pub mod Orders
 pub mod PrefixTruths
 pub mod Prefixes
 pub mod RestEntries
-pub mod SmoothLemmas
 pub mod SoonLemmas
 pub mod TailFacts
 pub mod TailLemmas
 pub mod TruthLemmas
 pub mod Valid
+pub mod VoiceSets
 pub mod WrittenClaims
 pub mod WrittenEntries

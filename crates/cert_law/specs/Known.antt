@@ -11,7 +11,7 @@ use Rattle.cert_law.specs.Bases.{Basis, HasTails}
 use Rattle.cert_law.specs.Cases.{IsCase, Matter}
 use Rattle.cert_law.specs.Certificates.{tree_of}
 use Rattle.cert_law.specs.Prefixes.{IsJudged}
-use Rattle.cert_law.specs.Smooth.{AreVoicesTold}
+use Rattle.cert_law.specs.VoicesTold.{AreVoicesTold}
 use Rattle.cert_law.specs.Tails.{tail_of}
 use Rattle.cert_law.specs.Writer.{first_claim}
 use Rattle.chain_sums.specs.Sums.{column_follows}

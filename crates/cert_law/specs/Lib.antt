@@ -7,9 +7,9 @@ pub mod Entries
 pub mod Known
 pub mod Prefixes
 pub mod Rests
-pub mod Smooth
 pub mod Soon
 pub mod Tails
 pub mod Truths
+pub mod VoicesTold
 pub mod WayLaws
 pub mod Writer

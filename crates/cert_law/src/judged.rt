@@ -27,7 +27,7 @@ pub struct Judged {
 }
 
 /// The rules of either set.
-fn joined(a: RuleSet, b: RuleSet) -> RuleSet
+pub(crate) fn joined(a: RuleSet, b: RuleSet) -> RuleSet
     ensures { (r : ℕ) → has_rule result.bits r ≡ (has_rule a.bits r || has_rule b.bits r) }
 {
     RuleSet {

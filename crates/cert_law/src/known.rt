@@ -1,7 +1,7 @@
 //! What is known of a prefix so that its claims can be judged.
 
 use crate::judged::Judged;
-use crate::smooth::VoicesTold;
+use crate::voices_told::VoicesTold;
 
 /// What is known of a prefix, and its tail. None where no chain goes on, or where `n` is stated.
 #[derive(Clone, Copy)]

@@ -7,17 +7,18 @@ ghost use Rattle.cert_law.specs.Cases.{IsCase, matter_of};
 ghost use Rattle.cert_law.specs.Known.{IsBehindKnown, IsKnown, IsKnownAfter, IsStepOf, KeepsKnown, own_in, tailed_of, tree_in, ways_of};
 ghost use Rattle.fux_grid.specs.Exercises.{columns_in};
 ghost use Rattle.fux_grid.specs.Menus.{menu_of};
-ghost use Rattle.fux_judge.specs.Told.{TellsSmooth};
+ghost use Rattle.fux_judge.specs.Told.{TellsLines};
 
 use crate::case::Case;
 use crate::judged::Judged;
 use crate::known::PrefixKnown;
-use crate::smooth::{VoicesTold, ask_voices};
 use crate::soon::{is_break_told, told_break};
 use crate::tails::Tails;
 use crate::truth::{first_claim, is_open, is_true};
+use crate::voices_told::{VoicesTold, ask_voices};
 use cert_text::Claim;
 use cert_tree::ClaimTree;
+use rule_law::RuleSet;
 use std::marker::Model;
 
 /// A case, and the tails by which its claims are judged.
@@ -140,19 +141,24 @@ fn judge_whole<T: Tails>(
 }
 
 /// Whether a claim is true of an open prefix with the column of a number more. Where the claim is
-/// of a rule of which a strict break is soon told, or of the chains that go on, no more is judged.
+/// of a rule of which a strict break is soon told, or of the chains that go on, no more is judged. It
+/// may be given which of S4 to S9 the column breaks.
 fn judge_with<T: Tails>(
     case: &Case<'_>,
     tails: &T,
     known: &PrefixKnown,
     number: usize,
     claim: Claim,
+    lines: Option<RuleSet>,
     found: &mut Option<PrefixKnown>,
 ) -> bool
     requires case { IsCase (matter_of case.now) }
     requires tails { HasTails (matter_of case.now) (T.basis tails.now) }
     requires step { IsStepOf (tailed_of (matter_of case.now) (T.basis tails.now)) number known.now }
     requires none { found.old ≡ None }
+    requires lines { TellsLines case.now.exercise.now known.now.judged.state
+        (slice_index_or (menu_of (T.basis tails.now).exercise known.now.judged.state.newest.len) number [])
+        lines }
     ensures told { IsBehindKnown (tailed_of (matter_of case.now) (T.basis tails.now)) known.now number
         (λ q. IsTrue result
         ↔ (tree_in (tailed_of (matter_of case.now) (T.basis tails.now))).IsTrueOf q claim) }
@@ -166,10 +172,54 @@ fn judge_with<T: Tails>(
     let i = known.judged.state.newest.len;
     let column = tails.column(i, number);
     let alone = tails.alone(i, number);
-    if is_break_told(case, &known.judged, column, alone, claim) {
+    if is_break_told(case, &known.judged, column, alone, lines, claim) {
         return true;
     }
     judge_whole(case, tails, known, number, claim, found)
+}
+
+/// Whether a claim is of a rule of melody, or of one before those.
+fn asks_lines(claim: Claim) -> bool {
+    match claim {
+        Claim::Broken(rule) => rule < 10,
+        _ => false,
+    }
+}
+
+/// As `judge_with`. Of each voice it is asked once what it breaks of S4 to S9, as long as its cell
+/// stays.
+fn judge_on<T: Tails>(
+    case: &Case<'_>,
+    tails: &T,
+    known: &mut PrefixKnown,
+    number: usize,
+    claim: Claim,
+    found: &mut Option<PrefixKnown>,
+) -> bool
+    requires case { IsCase (matter_of case.now) }
+    requires tails { HasTails (matter_of case.now) (T.basis tails.now) }
+    requires step { IsStepOf (tailed_of (matter_of case.now) (T.basis tails.now)) number known.old }
+    requires none { found.old ≡ None }
+    ensures told { IsBehindKnown (tailed_of (matter_of case.now) (T.basis tails.now)) known.old number
+        (λ q. IsTrue result
+        ↔ (tree_in (tailed_of (matter_of case.now) (T.basis tails.now))).IsTrueOf q claim) }
+    ensures found { IfSome found.new (λ next.
+        IsBehindKnown (tailed_of (matter_of case.now) (T.basis tails.now)) known.old number
+        (IsKnown (tailed_of (matter_of case.now) (T.basis tails.now)) next)) }
+    ensures kept { KeepsKnown (tailed_of (matter_of case.now) (T.basis tails.now)) known.old
+        known.new }
+{
+    if !asks_lines(claim) {
+        return judge_with(case, tails, known, number, claim, None, found);
+    }
+    let column = tails.column(known.judged.state.newest.len, number);
+    let lines = ask_voices(
+        case.exercise,
+        &known.judged.state,
+        column,
+        &mut known.voices,
+    );
+    judge_with(case, tails, known, number, claim, Some(lines), found)
 }
 
 /// The first claim that is true of an open prefix with the column of a number more, by all that is
@@ -197,23 +247,22 @@ fn tell_whole<T: Tails>(
 }
 
 /// The first claim that is true of an open prefix with the column of a number more. Where it is of
-/// a rule that is soon told, no more is judged. It may be given whether the column breaks no rule of
-/// melody.
+/// a rule that is soon told, no more is judged. It may be given which of S4 to S9 the column breaks.
 fn tell_with<T: Tails>(
     case: &Case<'_>,
     tails: &T,
     known: &PrefixKnown,
     number: usize,
-    smooth: Option<bool>,
+    lines: Option<RuleSet>,
     found: &mut Option<PrefixKnown>,
 ) -> Claim
     requires case { IsCase (matter_of case.now) }
     requires tails { HasTails (matter_of case.now) (T.basis tails.now) }
     requires step { IsStepOf (tailed_of (matter_of case.now) (T.basis tails.now)) number known.now }
     requires none { found.old ≡ None }
-    requires smooth { TellsSmooth case.now.exercise.now known.now.judged.state
+    requires lines { TellsLines case.now.exercise.now known.now.judged.state
         (slice_index_or (menu_of (T.basis tails.now).exercise known.now.judged.state.newest.len) number [])
-        smooth }
+        lines }
     ensures own { IsBehindKnown (tailed_of (matter_of case.now) (T.basis tails.now)) known.now number
         (λ q. result ≡ own_in (tailed_of (matter_of case.now) (T.basis tails.now)) q) }
     ensures found { IfSome found.new (λ next.
@@ -223,14 +272,13 @@ fn tell_with<T: Tails>(
     let i = known.judged.state.newest.len;
     let column = tails.column(i, number);
     let alone = tails.alone(i, number);
-    if let Some(rule) = told_break(case, &known.judged, column, alone, smooth) {
+    if let Some(rule) = told_break(case, &known.judged, column, alone, lines) {
         return Claim::Broken(rule);
     }
     tell_whole(case, tails, known, number, found)
 }
 
-/// As `tell_with`. Of each voice it is asked once whether it breaks no rule of melody, as long as its
-/// cell stays.
+/// As `tell_with`, and as `judge_on`.
 fn tell_on<T: Tails>(
     case: &Case<'_>,
     tails: &T,
@@ -251,13 +299,13 @@ fn tell_on<T: Tails>(
         known.new }
 {
     let column = tails.column(known.judged.state.newest.len, number);
-    let smooth = ask_voices(
+    let lines = ask_voices(
         case.exercise,
         &known.judged.state,
         column,
         &mut known.voices,
     );
-    tell_with(case, tails, known, number, Some(smooth), found)
+    tell_with(case, tails, known, number, Some(lines), found)
 }
 
 impl<'a, T: Tails> TailedCase<'a, T> {
@@ -331,17 +379,19 @@ impl<'a, T: Tails> ClaimTree for TailedCase<'a, T> {
     }
 
     fn is_true_behind(&self, known: &PrefixKnown, number: usize, claim: Claim) -> bool {
-        judge_with(&self.case, self.tails, known, number, claim, &mut None)
+        judge_with(
+            &self.case, self.tails, known, number, claim, None, &mut None,
+        )
     }
 
     fn judge_behind(
         &self,
-        known: &PrefixKnown,
+        known: &mut PrefixKnown,
         number: usize,
         claim: Claim,
         found: &mut Option<PrefixKnown>,
     ) -> bool {
-        judge_with(&self.case, self.tails, known, number, claim, found)
+        judge_on(&self.case, self.tails, known, number, claim, found)
     }
 
     fn own_claim(&self, known: &PrefixKnown) -> Claim {

@@ -81,20 +81,22 @@ pub trait ClaimTree {
         self.is_true(&next, claim)
     }
 
-    /// As `is_true_behind`. What is known of that node is kept, where it is found on the way.
+    /// As `is_true_behind`. What is known of that node is kept, where it is found on the way. More
+    /// may be known of the open node then.
     fn judge_behind(
         &self,
-        known: &Self::Known,
+        known: &mut Self::Known,
         number: usize,
         claim: Self::Claim,
         found: &mut Option<Self::Known>,
     ) -> bool
-        requires step { IsOfStep (tree self.now) (is_of self.now) (ways self.now) number known.now }
+        requires step { IsOfStep (tree self.now) (is_of self.now) (ways self.now) number known.old }
         requires none { found.old ≡ None }
-        ensures told { IsBehind (is_of self.now) (ways self.now) known.now number
+        ensures told { IsBehind (is_of self.now) (ways self.now) known.old number
             (λ p. IsTrue result ↔ (tree self.now).IsTrueOf p claim) }
         ensures found { IfSome found.new (λ next. IsBehind (is_of self.now) (ways self.now)
-            known.now number (is_of self.now next)) }
+            known.old number (is_of self.now next)) }
+        ensures kept { (p : Node) → is_of self.now known.old p → is_of self.now known.new p }
     {
         let _ = found;
         self.is_true_behind(known, number, claim)

@@ -77,7 +77,7 @@ pub fn feed<T: ClaimTree>(
         return Err(refused);
     }
     let mut found = None;
-    let Some(told) = is_next_true(it, &judging.walk, claim, &mut found) else {
+    let Some(told) = is_next_true(it, &mut judging.walk, claim, &mut found) else {
         return refuse(judging, Cause::Over);
     };
     if !told {

@@ -100,32 +100,58 @@ fn known_next<T: ClaimTree>(it: &T, walk: &Walk<T::Known>) -> Option<T::Known>
     Some(it.behind(&level.parent, level.number))
 }
 
+/// Whether a claim is true of the node to which the newest of the levels leads. What is known of it
+/// is kept, where it is found on the way.
+fn judge_newest<T: ClaimTree>(
+    it: &T,
+    levels: &mut Vec<Level<T::Known>>,
+    claim: T::Claim,
+    found: &mut Option<T::Known>,
+) -> bool
+    requires some { 0 < length levels.old.items }
+    requires levels { AreLevels (T.tree it.now) (T.is_of it.now) (T.ways it.now)
+        (reverse levels.old.items) }
+    requires none { found.old ≡ None }
+    ensures told { IsTrue result
+        ↔ (T.tree it.now).IsTrueOf (node_at (T.ways it.now) (reverse levels.old.items)) claim }
+    ensures found { IsFound (T.is_of it.now) (node_at (T.ways it.now) (reverse levels.old.items))
+        found.new }
+    ensures levels { AreLevels (T.tree it.now) (T.is_of it.now) (T.ways it.now)
+        (reverse levels.new.items) }
+    ensures steps { steps_of (reverse levels.new.items) ≡ steps_of (reverse levels.old.items) }
+    ensures room { vec_capacity levels.new ≡ vec_capacity levels.old }
+{
+    let top = levels.len() - 1;
+    let level = &mut levels[top];
+    it.judge_behind(&mut level.parent, level.number, claim, found)
+}
+
 /// Whether a claim is true of the node that is owed next, where there is one. What is known of it
 /// is kept, where it is found on the way.
 pub(crate) fn is_next_true<T: ClaimTree>(
     it: &T,
-    walk: &Walk<T::Known>,
+    walk: &mut Walk<T::Known>,
     claim: T::Claim,
     found: &mut Option<T::Known>,
 ) -> Option<bool>
-    requires walk { IsWalk (T.tree it.now) (T.is_of it.now) (T.ways it.now) walk.now }
+    requires walk { IsWalk (T.tree it.now) (T.is_of it.now) (T.ways it.now) walk.old }
     requires none { found.old ≡ None }
     ensures told { IfSome result (λ told. IsTrue told
-        ↔ (T.tree it.now).IsTrueOf (node_at (T.ways it.now) (levels_of walk.now)) claim) }
-    ensures found { IsFound (T.is_of it.now) (node_at (T.ways it.now) (levels_of walk.now))
+        ↔ (T.tree it.now).IsTrueOf (node_at (T.ways it.now) (levels_of walk.new)) claim) }
+    ensures found { IsFound (T.is_of it.now) (node_at (T.ways it.now) (levels_of walk.new))
         found.new }
-    ensures owes { IfSome result (λ _. OwesNext (T.ways it.now) walk.now) }
-    ensures none { result ≡ None → owed_by_walk (T.ways it.now) walk.now ≡ [] }
+    ensures owes { IfSome result (λ _. OwesNext (T.ways it.now) walk.new) }
+    ensures none { result ≡ None → owed_by_walk (T.ways it.now) walk.new ≡ [] }
+    ensures walk { IsWalk (T.tree it.now) (T.is_of it.now) (T.ways it.now) walk.new }
+    ensures owed { owed_by_walk (T.ways it.now) walk.new ≡ owed_by_walk (T.ways it.now) walk.old }
 {
-    let count = walk.levels.len();
-    if count == 0 {
+    if walk.levels.len() == 0 {
         return match &walk.root {
             Some(known) => Some(it.is_true(known, claim)),
             None => None,
         };
     }
-    let level = &walk.levels[count - 1];
-    Some(it.judge_behind(&level.parent, level.number, claim, found))
+    Some(judge_newest(it, &mut walk.levels, claim, found))
 }
 
 /// The claim that is written of the node to which the newest of the levels leads. What is known of

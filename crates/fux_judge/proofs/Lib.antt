@@ -10,6 +10,7 @@ pub mod Grows
 pub mod KeptLemmas
 pub mod LateLemmas
 pub mod LeastLaws
+pub mod LineBreaks
 pub mod LineLemmas
 pub mod LinkLemmas
 pub mod LinkPaid

@@ -37,7 +37,7 @@ picked_one X r k some others true e h =
 picked_one X r k some others false e h = ap (λ b. b || some) (and_false (X k)) ∙ h
 
 -- what is asked of some rules one by one, and of one number, is asked of that number
-picked : (X : ℕ → Bool) (r : ℕ) (rules : List ℕ) → list_any (λ rule. X rule && r == rule) rules
+pub picked : (X : ℕ → Bool) (r : ℕ) (rules : List ℕ) → list_any (λ rule. X rule && r == rule) rules
     ≡ (list_any (λ rule. r == rule) rules && X r)
 picked X r [] = refl
 picked X r (k ∷ rules) = picked_one X r k (list_any (λ rule. X rule && r == rule) rules)

@@ -1,32 +1,37 @@
 -- The first rule that is broken of those that are told is the least of all where S3 isn't broken
 -- (`told_is_least`).
 use Rattle.std.proofs.Common.{◌≡◌, ℕ, ◌+◌, ◌*◌, ◌/◌, ◌<◌, ◌≤◌, ◌==◌, ◌&&◌, ◌||◌, Bool, true, false, List, [], ◌∷◌, ◌++◌, drop, length, reverse, slice_index_or, subst, refl, ap, sym, ◌∙◌, arith}
-use Rattle.std.specs.Prelude.{Option, Some, None, cond, not}
-use Rattle.std.specs.List.{filter, find, list_all, list_any}
+use Rattle.std.specs.Prelude.{IsSomeAnd, Option, Some, None, cond, not}
+use Rattle.std.specs.List.{find, list_all, list_any}
 use Rattle.std.proofs.Math.Seq.{get_or-append_seam}
 use Rattle.std.specs.Option.{option_or}
-use Rattle.std.proofs.lemmas.Bool.{and_from, eqb-true, not-true}
+use Rattle.std.proofs.lemmas.Bool.{and_from, and_parts, eqb-true, not-true}
 use Rattle.std.proofs.lemmas.List.{length-append}
 use Rattle.std.proofs.lemmas.List.Folds.{find-append}
 use Rattle.fux_grid.specs.declared.cell.Cell.{Cell}
 use Rattle.fux_grid.specs.declared.exercise.Exercise.{Exercise}
 use Rattle.fux_grid.specs.Menus.{IsInMenu}
 use Rattle.melody_rules.specs.Smooth.{some_rough}
+use Rattle.rule_law.specs.declared.sets.RuleSet.{RuleSet}
 use Rattle.rule_law.specs.declared.table.Form.TheVariants.{OneVoice}
 use Rattle.rule_law.specs.Forms.{sets_of}
 use Rattle.rule_law.specs.Growth.{any_below}
 use Rattle.rule_law.specs.Law.{first_true, second_true}
 use Rattle.rule_law.specs.Prefixes.{GoesOn}
 use Rattle.rule_law.specs.Rulebooks.{IsAmong, newly_breaks}
+use Rattle.rule_law.specs.Voices.{has_rule}
 use Rattle.rhythm_cadence.specs.Book.{shape_rule}
 use Rattle.fux_judge.specs.declared.moment.Moment.{Moment}
 use Rattle.fux_judge.specs.Links.{breaks_strictly}
 use Rattle.fux_judge.specs.Moments.{IsAfter, is_strictly_broken_then}
 use Rattle.fux_judge.specs.Penalties.{is_strict_at, newly_broken, newly_broken_at}
 use Rattle.fux_judge.specs.Rules.{all_sets, is_broken, is_late, is_of_melody, is_read, rule_at, rules_read}
-use Rattle.fux_judge.specs.Told.{first_rules, joint_rules, least_alone, least_newly_broken}
+use Rattle.fux_judge.specs.States.{IsStateOf}
+use Rattle.fux_judge.specs.Told.{TellsLines, first_rules, is_of_line, joint_rules, least_alone, least_newly_broken, line_rules}
+use Rattle.fux_judge.specs.declared.state.State.{State}
 use Rattle.fux_judge.proofs.AlwaysLemmas.{breaks_here, clashed, crossed, ended_apart, met}
 use Rattle.fux_judge.proofs.KeptLemmas.{melody_kept, menu_kept}
+use Rattle.fux_judge.proofs.LineBreaks.{line_is_read, lines_at_once}
 use Rattle.fux_judge.proofs.StepPlaces.{newly_broken-at_once, newly_broken-late}
 
 -- ---- the first of a list
@@ -59,16 +64,13 @@ found_in_all f rule e first second third =
     ∙ find-append f first_rules later_rules
     ∙ ap (λ o. option_or o (find f later_rules)) e
 
--- rules that aren't broken may be left out
-find_left_out : (f out : ℕ → Bool) (xs : List ℕ) → ((x : ℕ) → out x ≡ true → f x ≡ false)
-    → find f (filter (λ x. not (out x)) xs) ≡ find f xs
-find_left_out f out [] none = refl
-find_left_out f out (x ∷ xs) none = at (out x) refl (find_left_out f out xs none)
-  where
-    at : (b : Bool) → out x ≡ b → find f (filter (λ y. not (out y)) xs) ≡ find f xs
-        → find f (cond (not b) (x ∷ filter (λ y. not (out y)) xs) (filter (λ y. not (out y)) xs)) ≡ find f (x ∷ xs)
-    at true e later = later ∙ ap (λ b. cond b (Some x) (find f xs)) (sym (none x e))
-    at false e later = ap (λ o. cond (f x) (Some x) o) later
+-- nothing is found of tests that all fail
+none_found : (f test : ℕ → Bool) (xs : List ℕ) → list_all test xs ≡ true → ((x : ℕ) → test x ≡ true → f x ≡ false)
+    → find f xs ≡ None
+none_found f test [] h none = refl
+none_found f test (x ∷ xs) h none =
+    ap (λ b. cond b (Some x) (find f xs)) (none x (first_true (test x) (list_all test xs) h))
+    ∙ none_found f test xs (second_true (test x) (list_all test xs) h) none
 
 one_among : (test : ℕ → Bool) (x : ℕ) (xs : List ℕ) → list_all test xs ≡ true → list_any (λ y. y == x) xs ≡ true
     → test x ≡ true
@@ -111,13 +113,19 @@ module _ (ex : Exercise) (p : List (List Cell)) (col : List Cell) (m : Moment) (
       all_sets) its
       ∙ sym (newly_broken-at_once ex p col rule late)
 
-  -- where it is smooth, the rules of melody need not be asked
-  pub asked_jointly : some_rough m.exercise.now (reverse p) m.column.now ≡ false
-      → find (λ r. is_strictly_broken_then all_sets r p m) joint_rules
-      ≡ find (λ r. is_strictly_broken_then all_sets r p m) first_rules
-  unfolding joint_rules
-  asked_jointly smooth =
-      find_left_out (λ r. is_strictly_broken_then all_sets r p m) is_of_melody first_rules (melody_kept p m smooth)
+  -- where it is smooth, none of melody is found
+  pub none_of_lines : some_rough m.exercise.now (reverse p) m.column.now ≡ false
+      → find (λ r. is_strictly_broken_then all_sets r p m) line_rules ≡ None
+  none_of_lines smooth =
+      none_found (λ r. is_strictly_broken_then all_sets r p m) is_of_melody line_rules refl (melody_kept p m smooth)
+
+  -- those that are told of are found
+  pub lines_found : (bits : ℕ)
+      → ((rule : ℕ) → has_rule bits rule ≡ (is_of_line rule && newly_broken ex p col rule))
+      → find (has_rule bits) line_rules ≡ find (λ r. is_strictly_broken_then all_sets r p m) line_rules
+  lines_found bits told =
+      find_where is_of_line (has_rule bits) (λ r. is_strictly_broken_then all_sets r p m) line_rules refl
+      (λ r h. told r ∙ ap (λ b. b && newly_broken ex p col r) h ∙ sym (strictly_newly r (lines_at_once r h)))
 
   pub told_is_least : (rule : ℕ) → Some rule ≡ find (λ r. is_strictly_broken_then all_sets r p m) first_rules
       → GoesOn ex p (col ∷ []) → newly_broken ex p col 3 ≡ false → least_newly_broken ex p col ≡ Some rule
@@ -141,6 +149,17 @@ module _ (ex : Exercise) (p : List (List Cell)) (col : List Cell) (m : Moment) (
 joint_are : joint_rules ≡ 10 ∷ 11 ∷ 12 ∷ 13 ∷ 14 ∷ []
 unfolding rule_at joint_rules
 joint_are = refl
+
+-- what is found of the first rules is found of those of melody, or else of the others
+first_parts : (f : ℕ → Bool) → find f first_rules ≡ option_or (find f line_rules) (find f joint_rules)
+first_parts f = ap (λ rules. find f (line_rules ++ rules)) (sym joint_are) ∙ find-append f line_rules joint_rules
+
+pub by_line : (f : ℕ → Bool) (rule : ℕ) → Some rule ≡ find f line_rules → Some rule ≡ find f first_rules
+by_line f rule e = ap (λ o. option_or o (find f joint_rules)) e ∙ sym (first_parts f)
+
+pub by_joint : (f : ℕ → Bool) (found : Option ℕ) → None ≡ find f line_rules → found ≡ find f joint_rules
+    → found ≡ find f first_rules
+by_joint f found none e = e ∙ ap (λ o. option_or o (find f joint_rules)) none ∙ sym (first_parts f)
 
 -- the first of four that pass, and of five: the third of these is before the last two
 abbrev first_of_four : Bool → Bool → Bool → Bool → Option ℕ
@@ -258,6 +277,15 @@ alone_newly ex p col rule e =
     settled r among h =
         and_from (is_read r) (newly_broken ex p col r) (told_is_read r among)
         (newly_broken-at_once ex p col r (told_at_once r among) ∙ h)
+
+-- of a rule that is told to be among those of melody that it breaks, too
+pub among_newly : (ex : Exercise) (state : State) (p : List (List Cell)) (col : List Cell) (lines : Option RuleSet)
+    (rule : ℕ) → IsSomeAnd lines (λ set. has_rule set.bits rule ≡ true) → TellsLines ex state col lines
+    → IsStateOf ex p state → (is_read rule && newly_broken ex p col rule) ≡ true
+among_newly ex state p col None rule has tells is = absurd has
+among_newly ex state p col (Some set) rule has tells is =
+    let parts = and_parts (is_of_line rule) (newly_broken ex p col rule) (sym (tells p is rule) ∙ has) in
+    and_from (is_read rule) (newly_broken ex p col rule) (line_is_read rule parts.0) parts.1
 
 -- ---- S3
 

@@ -24,7 +24,7 @@ use rule_law::{is_free, is_quiet};
 
 /// The set of one voice.
 #[inline(always)]
-fn set_of(v: u8) -> VoiceSet
+pub(crate) fn set_of(v: u8) -> VoiceSet
     requires { v < 4 }
     ensures { result.bits ≡ 2 ^ v }
 {

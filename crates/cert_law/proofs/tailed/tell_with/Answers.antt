@@ -7,7 +7,7 @@ use Rattle.cert_law.proofs.KnownLemmas.{step_column, step_full, step_goes_on, st
 use Rattle.fux_grid.specs.declared.cell.Cell.{Cell}
 use Rattle.fux_grid.specs.declared.exercise.Exercise.{Exercise}
 use Rattle.fux_grid.specs.Menus.{menu_of}
-use Rattle.fux_judge.specs.Told.{TellsSmooth}
+use Rattle.fux_judge.specs.Told.{TellsLines}
 use Rattle.rule_law.specs.Prefixes.{GoesOn}
 use Rattle.cert_law.proofs.tailed.tell_with.Goals as goal
 
@@ -50,10 +50,10 @@ told_break-requires-clause-alone g c =
     (subst (λ (ex : Exercise). IsAlone ex i (slice_index_or (menu_of basis.exercise i) c.args.number []) alone)
     c.requires.tails.exercise c.alone-alone.ensures)
 
-pub told_break-requires-clause-smooth : goal.told_break-requires-clause-smooth
-told_break-requires-clause-smooth g c =
-    subst (λ (col : List Cell). TellsSmooth c.args.case.now.exercise.now c.args.known.now.judged.state col c.args.smooth)
-    (sym c.column-column.ensures) c.requires.smooth
+pub told_break-requires-clause-lines : goal.told_break-requires-clause-lines
+told_break-requires-clause-lines g c =
+    subst (λ (col : List Cell). TellsLines c.args.case.now.exercise.now c.args.known.now.judged.state col c.args.lines)
+    (sym c.column-column.ensures) c.requires.lines
 
 pub told_break-requires-clause-full : goal.told_break-requires-clause-full
 told_break-requires-clause-full g c =

@@ -10,13 +10,13 @@ returns-clause-kept g c =
     let it = c.args.it.now in
     let tree = g.T.ClaimTree in
     let met = g.met.T.ClaimTree in
-    let walk = c.args.judging.now.walk in
+    let walk = c.is_next_true.new.walk in
     let levels = reverse walk.levels.items in
     let ways = tree.ways it in
     let p = node_at ways levels in
     let later = owed_later ways levels in
     let holds = c.in-Some-is_next_true.ensures.told.0 c.if-not-told.false in
-    let owed = c.in-Some-is_next_true.ensures.owes in
+    let owed = sym c.in-Some-is_next_true.ensures.owed ∙ c.in-Some-is_next_true.ensures.owes in
     let after = c.go_on.ensures.owed
     ∙ ap (λ ps. ps ++ later)
     (owed-taken (tree.tree it) (tree.root it) ways (met.are_ways it) p c.args.claim c.is_open.result c.is_open.ensures) in

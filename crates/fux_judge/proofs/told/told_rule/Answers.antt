@@ -5,7 +5,7 @@ use Rattle.fux_grid.specs.declared.cell.Cell.{Cell}
 use Rattle.fux_grid.specs.declared.exercise.Exercise.{Exercise}
 use Rattle.rule_law.specs.Prefixes.{GoesOn}
 use Rattle.fux_judge.specs.Penalties.{newly_broken}
-use Rattle.fux_judge.specs.Told.{TellsSmooth, least_alone}
+use Rattle.fux_judge.specs.Told.{TellsLines, least_alone}
 use Rattle.fux_judge.specs.declared.state.State.{State}
 use Rattle.fux_judge.proofs.ToldLemmas.{told_is_least}
 use Rattle.fux_judge.proofs.told.told_rule.Goals as goal
@@ -20,14 +20,14 @@ first_told-requires-clause-alone c =
     (subst (λ (d : List Cell). IfSome c.args.alone (λ rule. least_alone c.args.ex.now c.args.state.now.newest.len d
     ≡ Some rule)) (sym is.column) c.requires.alone))
 
-pub first_told-requires-clause-smooth : goal.first_told-requires-clause-smooth
-first_told-requires-clause-smooth c =
+pub first_told-requires-clause-lines : goal.first_told-requires-clause-lines
+first_told-requires-clause-lines c =
     let m = c.moment_of-moment.result in
     let is = c.moment_of-moment.ensures in
-    subst (λ (ex : Exercise). TellsSmooth ex m.state.now m.column.now c.args.smooth) (sym is.exercise)
-    (subst (λ (state : State). TellsSmooth c.args.ex.now state m.column.now c.args.smooth) (sym is.state)
-    (subst (λ (d : List Cell). TellsSmooth c.args.ex.now c.args.state.now d c.args.smooth) (sym is.column)
-    c.requires.smooth))
+    subst (λ (ex : Exercise). TellsLines ex m.state.now m.column.now c.args.lines) (sym is.exercise)
+    (subst (λ (state : State). TellsLines c.args.ex.now state m.column.now c.args.lines) (sym is.state)
+    (subst (λ (d : List Cell). TellsLines c.args.ex.now c.args.state.now d c.args.lines) (sym is.column)
+    c.requires.lines))
 
 pub returns-then-keeps_shapes : goal.returns-then-keeps_shapes
 returns-then-keeps_shapes c = λ p st on.
