@@ -1,6 +1,6 @@
 -- The first rule that is broken of those that are told is the least of all where S3 isn't broken
 -- (`told_is_least`).
-use Rattle.std.proofs.Common.{◌≡◌, ℕ, ◌+◌, ◌*◌, ◌/◌, ◌<◌, ◌≤◌, ◌==◌, ◌&&◌, ◌||◌, Bool, true, false, List, [], ◌∷◌, ◌++◌, drop, length, reverse, slice_index_or, subst, refl, ap, sym, ◌∙◌, arith}
+use Rattle.std.proofs.Common.{◌≡◌, ℕ, zero, suc, ◌+◌, ◌*◌, ◌/◌, ◌<◌, ◌≤◌, ◌==◌, ◌&&◌, ◌||◌, Bool, true, false, List, [], ◌∷◌, ◌++◌, drop, length, reverse, slice_index_or, subst, refl, ap, sym, ◌∙◌, arith}
 use Rattle.std.specs.Prelude.{IsSomeAnd, Option, Some, None, cond, not}
 use Rattle.std.specs.List.{find, list_all, list_any}
 use Rattle.std.proofs.Math.Seq.{get_or-append_seam}
@@ -15,7 +15,7 @@ use Rattle.melody_rules.specs.Smooth.{some_rough}
 use Rattle.rule_law.specs.declared.sets.RuleSet.{RuleSet}
 use Rattle.rule_law.specs.declared.table.Form.TheVariants.{OneVoice}
 use Rattle.rule_law.specs.Forms.{sets_of}
-use Rattle.rule_law.specs.Growth.{any_below}
+use Rattle.rule_law.specs.Growth.{any_below, list_any-same}
 use Rattle.rule_law.specs.Law.{first_true, second_true}
 use Rattle.rule_law.specs.Prefixes.{GoesOn}
 use Rattle.rule_law.specs.Rulebooks.{IsAmong, newly_breaks}
@@ -25,13 +25,14 @@ use Rattle.fux_judge.specs.declared.moment.Moment.{Moment}
 use Rattle.fux_judge.specs.Links.{breaks_strictly}
 use Rattle.fux_judge.specs.Moments.{IsAfter, is_strictly_broken_then}
 use Rattle.fux_judge.specs.Penalties.{is_strict_at, newly_broken, newly_broken_at}
-use Rattle.fux_judge.specs.Rules.{all_sets, is_broken, is_late, is_of_melody, is_read, rule_at, rules_read}
+use Rattle.fux_judge.specs.Rules.{all_sets, is_broken, is_late, is_of_melody, is_read, late_rules, rule_at, rules_at_once, rules_read}
 use Rattle.fux_judge.specs.States.{IsStateOf}
 use Rattle.fux_judge.specs.Told.{TellsLines, first_rules, is_of_line, joint_rules, least_alone, least_newly_broken, line_rules}
 use Rattle.fux_judge.specs.declared.state.State.{State}
 use Rattle.fux_judge.proofs.AlwaysLemmas.{breaks_here, clashed, crossed, ended_apart, met}
 use Rattle.fux_judge.proofs.KeptLemmas.{melody_kept, menu_kept}
 use Rattle.fux_judge.proofs.LineBreaks.{line_is_read, lines_at_once}
+use Rattle.fux_judge.proofs.Parts.{list_all-kept}
 use Rattle.fux_judge.proofs.StepPlaces.{newly_broken-at_once, newly_broken-late}
 
 -- ---- the first of a list
@@ -63,6 +64,14 @@ found_in_all f rule e first second third =
     ∙ ap (λ b. cond b (Some 3) (find f (first_rules ++ later_rules))) third
     ∙ find-append f first_rules later_rules
     ∙ ap (λ o. option_or o (find f later_rules)) e
+
+-- S3 is found where it is broken, and S1 and S2 aren't
+shapes_found : (f : ℕ → Bool) → f 1 ≡ false → f 2 ≡ false → f 3 ≡ true → find f rules_read ≡ Some 3
+unfolding rules_read later_rules
+shapes_found f first second third =
+    ap (λ b. cond b (Some 1) (cond (f 2) (Some 2) (cond (f 3) (Some 3) (find f (first_rules ++ later_rules))))) first
+    ∙ ap (λ b. cond b (Some 2) (cond (f 3) (Some 3) (find f (first_rules ++ later_rules)))) second
+    ∙ ap (λ b. cond b (Some 3) (find f (first_rules ++ later_rules))) third
 
 -- nothing is found of tests that all fail
 none_found : (f test : ℕ → Bool) (xs : List ℕ) → list_all test xs ≡ true → ((x : ℕ) → test x ≡ true → f x ≡ false)
@@ -100,6 +109,37 @@ told_at_once rule h = not-true (is_late rule) (one_among (λ r. not (is_late r))
 pub told_is_read : (rule : ℕ) → list_any (λ y. y == rule) first_rules ≡ true → is_read rule ≡ true
 told_is_read rule h = one_among is_read rule first_rules all_read h
 
+-- each rule that is read is late, or settled at once
+all_at_once : list_all (λ rule. not (is_late rule)) rules_at_once ≡ true
+unfolding rules_at_once
+all_at_once = list_all-kept (λ rule. not (is_late rule)) rules_read
+
+at_once_read : list_all is_read rules_at_once ≡ true
+unfolding rules_at_once rules_read rule_at
+at_once_read = refl
+
+all_late : list_all is_late late_rules ≡ true
+unfolding late_rules
+all_late = list_all-kept is_late rules_read
+
+late_read : list_all is_read late_rules ≡ true
+unfolding late_rules rules_read rule_at
+late_read = refl
+
+pub at_once_among : (rule : ℕ) → list_any (λ y. y == rule) rules_at_once ≡ true
+    → (is_late rule ≡ false) × (is_read rule ≡ true)
+at_once_among rule h = (
+  not-true (is_late rule) (one_among (λ r. not (is_late r)) rule rules_at_once all_at_once h),
+  one_among is_read rule rules_at_once at_once_read h,
+)
+
+pub late_among : (rule : ℕ) → list_any (λ y. y == rule) late_rules ≡ true → (is_late rule ≡ true) × (is_read rule ≡ true)
+late_among rule h = (one_among is_late rule late_rules all_late h, one_among is_read rule late_rules late_read h)
+
+pub third_is_read : is_read 3 ≡ true
+unfolding rules_read
+third_is_read = refl
+
 module _ (ex : Exercise) (p : List (List Cell)) (col : List Cell) (m : Moment) (same : m.exercise.now ≡ ex)
     (its : m.column.now ≡ col) where
   -- what is read at the moment is what the column settles
@@ -127,22 +167,30 @@ module _ (ex : Exercise) (p : List (List Cell)) (col : List Cell) (m : Moment) (
       find_where is_of_line (has_rule bits) (λ r. is_strictly_broken_then all_sets r p m) line_rules refl
       (λ r h. told r ∙ ap (λ b. b && newly_broken ex p col r) h ∙ sym (strictly_newly r (lines_at_once r h)))
 
-  pub told_is_least : (rule : ℕ) → Some rule ≡ find (λ r. is_strictly_broken_then all_sets r p m) first_rules
-      → GoesOn ex p (col ∷ []) → newly_broken ex p col 3 ≡ false → least_newly_broken ex p col ≡ Some rule
-  told_is_least rule e on third =
+  -- a column of a menu breaks neither S1 nor S2
+  low_kept : GoesOn ex p (col ∷ []) → (newly_broken ex p col 1 ≡ false) × (newly_broken ex p col 2 ≡ false)
+  low_kept on =
       let here : slice_index_or (p ++ col ∷ []) (length p) [] ≡ col = get_or-append_seam p col [] [] in
       let placed : length p < length (p ++ col ∷ []) = omega (arith, length-append p (col ∷ [])) in
       let menu : IsInMenu m.exercise.now (length p) m.column.now =
       subst (λ (e : Exercise). IsInMenu e (length p) m.column.now) (sym same)
       (subst (λ (c : List Cell). IsInMenu ex (length p) c) (here ∙ sym its) (on.longer.menus (length p) placed)) in
-      let kept = menu_kept p m menu in
+      let kept = menu_kept p m menu in (
+        sym (strictly_newly 1 (range_at_once 1 refl)) ∙ kept.0,
+        sym (strictly_newly 2 (range_at_once 2 refl)) ∙ kept.1,
+      )
+
+  pub told_is_least : (rule : ℕ) → Some rule ≡ find (λ r. is_strictly_broken_then all_sets r p m) first_rules
+      → GoesOn ex p (col ∷ []) → newly_broken ex p col 3 ≡ false → least_newly_broken ex p col ≡ Some rule
+  told_is_least rule e on third =
       found_in_all (newly_broken ex p col) rule
       (sym (find_where (λ r. not (is_late r)) (λ r. is_strictly_broken_then all_sets r p m) (newly_broken ex p col)
       first_rules all_soon (λ r h. strictly_newly r (not-true (is_late r) h)))
       ∙ sym e)
-      (sym (strictly_newly 1 (range_at_once 1 refl)) ∙ kept.0)
-      (sym (strictly_newly 2 (range_at_once 2 refl)) ∙ kept.1)
-      third
+      (low_kept on).0 (low_kept on).1 third
+
+  pub third_is_least : GoesOn ex p (col ∷ []) → newly_broken ex p col 3 ≡ true → least_newly_broken ex p col ≡ Some 3
+  third_is_least on third = shapes_found (newly_broken ex p col) (low_kept on).0 (low_kept on).1 third
 
 -- ---- what a column decides by itself
 
@@ -297,23 +345,47 @@ third_is_late = refl
 pub third_among : (n place : ℕ) → place ≡ 8 * (n / 8) → IsAmong (8 * (n / 8)) 1 place
 third_among n place e = record { from = omega (arith, e); to = omega (arith, e) }
 
-pub third_kept : (ex : Exercise) (p : List (List Cell)) (col : List Cell) (place voices : ℕ)
-    → newly_breaks shape_rule ex voices p col place ≡ false → newly_broken_at 3 ex voices p col place ≡ false
+-- it is never relaxed
+strict_third : (ex : Exercise) (voices i : ℕ) → is_strict_at 3 ex voices i ≡ true
+strict_third ex voices i = refl
+
+third_at : (ex : Exercise) (p : List (List Cell)) (col : List Cell) (place voices : ℕ)
+    → newly_broken_at 3 ex voices p col place ≡ newly_breaks shape_rule ex voices p col place
 unfolding rule_at
-third_kept ex p col place voices h = ap (λ b. b && is_strict_at 3 ex voices place) h
+third_at ex p col place voices =
+    ap (λ b. newly_breaks shape_rule ex voices p col place && b) (strict_third ex voices place)
+    ∙ with_true (newly_breaks shape_rule ex voices p col place)
+  where
+    with_true : (b : Bool) → (b && true) ≡ b
+    with_true true = refl
+    with_true false = refl
 
 any_of_one : (test : ℕ → Bool) → any_below test 1 ≡ test 0
 any_of_one test = refl
 
-pub keeps_third : (ex : Exercise) (p : List (List Cell)) (col : List Cell) (place : ℕ) → place ≡ 8 * (length p / 8)
+-- so it is read of each voice at that place
+pub third_is : (ex : Exercise) (p : List (List Cell)) (col : List Cell) (place : ℕ) → place ≡ 8 * (length p / 8)
     → GoesOn ex p (col ∷ [])
-    → list_any (λ voices. newly_broken_at 3 ex voices p col place) (sets_of OneVoice ex.voices) ≡ false
-    → newly_broken ex p col 3 ≡ false
+    → newly_broken ex p col 3
+    ≡ list_any (λ voices. newly_breaks shape_rule ex voices p col place) (sets_of OneVoice ex.voices)
 unfolding rule_at
-keeps_third ex p col place e on h =
+third_is ex p col place e on =
     let test : ℕ → Bool = λ i. list_any (λ voices. newly_broken_at 3 ex voices p col i) (sets_of OneVoice ex.voices) in
     let first : 8 * (length p / 8) + 0 ≡ place = omega (arith, e) in
     newly_broken-late ex p col 3 third_is_late on
     ∙ any_of_one (λ k. test (8 * (length p / 8) + k))
     ∙ ap test first
-    ∙ h
+    ∙ list_any-same (λ voices. newly_broken_at 3 ex voices p col place)
+    (λ voices. newly_breaks shape_rule ex voices p col place) (sets_of OneVoice ex.voices) (third_at ex p col place)
+
+-- one that passes is found
+pub any_at : (test : ℕ → Bool) (xs : List ℕ) (i d : ℕ) → i < length xs → test (slice_index_or xs i d) ≡ true
+    → list_any test xs ≡ true
+any_at test [] i d low h = absurd (omega (arith, low))
+any_at test (x ∷ xs) zero d low h = ap (λ b. b || list_any test xs) h
+any_at test (x ∷ xs) (suc i) d low h =
+    ap (λ b. test x || b) (any_at test xs i d (omega (arith, low)) h) ∙ or_true (test x)
+  where
+    or_true : (b : Bool) → (b || true) ≡ true
+    or_true true = refl
+    or_true false = refl

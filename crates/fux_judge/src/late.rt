@@ -151,7 +151,7 @@ fn prices_for(rule: u8, ex: &Exercise, next: &State, place: usize, sets: &[u8]) 
 
 /// Whether the newest column settles a strict break of a late rule.
 #[inline(always)]
-fn is_broken_late(rule: u8, ex: &Exercise, next: &State) -> bool
+pub(crate) fn is_broken_late(rule: u8, ex: &Exercise, next: &State) -> bool
     requires late { is_late rule ≡ true }
     requires valid { IsValid ex.now }
     requires begun { 0 < next.now.newest.len }

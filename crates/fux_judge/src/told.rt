@@ -15,8 +15,10 @@ ghost use Rattle.fux_judge.specs.States.{IsStateOf};
 ghost use Rattle.fux_judge.specs.Told.{HasLineBreaks, TellsLines, first_rules, joint_rules, least_alone, least_newly_broken, line_rules};
 ghost use Rattle.fux_judge.specs.Verdicts.{GoingOn};
 
+use crate::late::is_broken_late;
 use crate::moment::Moment;
 use crate::moves::set_of;
+use crate::numbers::{all_at_once, every_late_rule};
 use crate::reading::{is_strictly_broken, is_strictly_broken_now};
 use crate::state::State;
 use crate::verdict::moment_of;
@@ -25,23 +27,12 @@ use melody_rules::{are_smooth, is_smooth_in};
 use rhythm_cadence::Rhythm;
 use rule_law::{Form, RuleCrate, RuleSet, is_quiet, sets_of};
 
-/// The rules from S4 to S14: all are settled at once, and no column of a menu breaks S1 or S2.
-const FIRST_RULES: [u8; 11] = [4, 5, 6, 7, 8, 9, 10, 11, 12, 13, 14];
-
-/// Those of them that are of melody.
+/// The first rules are those from S4 to S14: all are settled at once, and no column of a menu breaks
+/// S1 or S2. Those of them that are of melody.
 const LINE_RULES: [u8; 6] = [4, 5, 6, 7, 8, 9];
 
 /// Those that aren't.
 const JOINT_RULES: [u8; 5] = [10, 11, 12, 13, 14];
-
-/// The first rules, as a list.
-#[tactic(auto, unfolding(crate::specs::Rules::rule_at))]
-fn told_rules() -> &'static [u8]
-    ensures value { result.now ≡ first_rules }
-    ensures numbers { IsTrue (list_all (λ rule. nat_lt rule 32 && not (is_late rule)) result.now) }
-{
-    &FIRST_RULES
-}
 
 /// Those of melody, as a list.
 #[tactic(auto, unfolding(crate::specs::Rules::rule_at))]
@@ -52,7 +43,7 @@ fn told_of_lines() -> &'static [u8]
     &LINE_RULES
 }
 
-/// The joint ones of them, as a list.
+/// The others, as a list.
 #[tactic(auto, unfolding(crate::specs::Rules::rule_at, crate::specs::Told::joint_rules))]
 fn told_jointly() -> &'static [u8]
     ensures value { result.now ≡ joint_rules }
@@ -159,12 +150,12 @@ fn first_told(m: &Moment<'_>, alone: Option<u8>, lines: Option<RuleSet>) -> Opti
     }
 }
 
-/// Whether the column leaves each voice a shape that it may have: it settles no break of S3.
-fn keeps_shapes(m: &Moment<'_>) -> bool
+/// Whether the column leaves some voice no shape that it may have: it settles a break of S3.
+fn breaks_shapes(m: &Moment<'_>) -> bool
     requires readable { IsReadable m.now }
     requires full { length m.now.column.now ≡ m.now.exercise.now.voices }
-    ensures { OnTrue result ((p : Columns) → IsAfter p m.now → GoesOn m.now.exercise.now p
-        (m.now.column.now ∷ []) → newly_broken m.now.exercise.now p m.now.column.now 3 ≡ false) }
+    ensures { (p : Columns) → IsAfter p m.now → GoesOn m.now.exercise.now p (m.now.column.now ∷ [])
+        → result ≡ newly_broken m.now.exercise.now p m.now.column.now 3 }
 {
     let i = m.state.newest.len;
     let mut part = m.state.past.parts.second.second.second.first;
@@ -175,16 +166,16 @@ fn keeps_shapes(m: &Moment<'_>) -> bool
     for bits in sets {
         let voices = VoiceSet { bits: *bits };
         if Rhythm::breaks_late(&part, &newest, 3, m.exercise, voices, place) {
-            return false;
+            return true;
         }
     }
-    true
+    false
 }
 
-/// The least rule of which a column settles a strict break, where it is one of the first and soon
-/// told: most columns that break a rule break one of these. None where it isn't told. It is told
-/// sooner where the least rule is given that the column breaks by itself, and which of S4 to S9 it
-/// breaks.
+/// The least rule of which a column settles a strict break, where it is S3 or one of the first and
+/// soon told: most columns that break a rule break one of these. None where it isn't told. It is
+/// told sooner where the least rule is given that the column breaks by itself, and which of S4 to S9
+/// it breaks.
 pub fn told_rule(
     ex: &Exercise,
     state: &State,
@@ -201,15 +192,15 @@ pub fn told_rule(
     ensures { IfSome result (λ rule. GoingOn ex.now state.now col.now.items
         (λ p added. least_newly_broken ex.now p added ≡ Some rule)) }
 {
+    let moment = moment_of(ex, state, col);
+    if breaks_shapes(&moment) {
+        return Some(3);
+    }
     if is_quiet(state.newest.len, col.as_slice()) {
         return None;
     }
-    let moment = moment_of(ex, state, col);
     let rule = first_told(&moment, alone, lines)?;
-    if keeps_shapes(&moment) {
-        return Some(rule);
-    }
-    None
+    Some(rule)
 }
 
 /// Whether a rule is told to be among those that the column breaks.
@@ -222,9 +213,45 @@ fn is_among(lines: Option<RuleSet>, rule: u8) -> bool
     }
 }
 
-/// Whether a column settles a strict break of a rule, where that is soon told. Where it answers no,
-/// it may settle one all the same. It is told at once where that is the rule given as the least that
-/// the column breaks by itself, or one of those of S4 to S9 that are given as those that it breaks.
+/// Whether a column settles a strict break of a late rule: the state of the longer prefix is made
+/// for it.
+fn breaks_late_rule(ex: &Exercise, state: &State, col: &Column, rule: u8) -> bool
+    requires valid { IsValid ex.now }
+    requires room { state.now.newest.len < columns_in ex.now }
+    requires full { length col.now.items ≡ ex.now.voices }
+    requires late { is_late rule ≡ true }
+    ensures { GoingOn ex.now state.now col.now.items (λ p added. result ≡ newly_broken ex.now p
+        added rule) }
+{
+    let mut next = *state;
+    next.add(ex, col);
+    is_broken_late(rule, ex, &next)
+}
+
+/// Whether a column settles a strict break of a rule, which alone is asked.
+fn breaks_rule(ex: &Exercise, state: &State, col: &Column, rule: u8) -> bool
+    requires valid { IsValid ex.now }
+    requires room { state.now.newest.len < columns_in ex.now }
+    requires full { length col.now.items ≡ ex.now.voices }
+    ensures { OnTrue result (GoingOn ex.now state.now col.now.items
+        (λ p added. (is_read rule && newly_broken ex.now p added rule) ≡ true)) }
+{
+    let moment = moment_of(ex, state, col);
+    if rule == 3 {
+        return breaks_shapes(&moment);
+    }
+    if every_late_rule().contains(&rule) {
+        return breaks_late_rule(ex, state, col, rule);
+    }
+    if !all_at_once().contains(&rule) {
+        return false;
+    }
+    is_strictly_broken_now(rule, &moment)
+}
+
+/// Whether a column is told to settle a strict break of a rule. It is told at once where that is the
+/// rule given as the least that the column breaks by itself, or one of those of S4 to S9 that are
+/// given as those that it breaks; else that rule alone is asked.
 pub fn is_told_broken(
     ex: &Exercise,
     state: &State,
@@ -250,12 +277,5 @@ pub fn is_told_broken(
     if is_among(lines, rule) {
         return true;
     }
-    if !told_rules().contains(&rule) {
-        return false;
-    }
-    let moment = moment_of(ex, state, col);
-    if is_strictly_broken_now(rule, &moment) {
-        return true;
-    }
-    false
+    breaks_rule(ex, state, col, rule)
 }

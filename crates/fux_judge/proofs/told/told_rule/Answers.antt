@@ -1,13 +1,12 @@
 use Rattle.std.proofs.Common.{◌≡◌, ◌∷◌, [], List, ap, sym, ◌∙◌, subst}
 use Rattle.std.specs.Prelude.{IfSome, Some}
-use Rattle.std.proofs.lemmas.Bool.{OnTrue_at}
 use Rattle.fux_grid.specs.declared.cell.Cell.{Cell}
 use Rattle.fux_grid.specs.declared.exercise.Exercise.{Exercise}
 use Rattle.rule_law.specs.Prefixes.{GoesOn}
 use Rattle.fux_judge.specs.Penalties.{newly_broken}
 use Rattle.fux_judge.specs.Told.{TellsLines, least_alone}
 use Rattle.fux_judge.specs.declared.state.State.{State}
-use Rattle.fux_judge.proofs.ToldLemmas.{told_is_least}
+use Rattle.fux_judge.proofs.ToldLemmas.{third_is_least, told_is_least}
 use Rattle.fux_judge.proofs.told.told_rule.Goals as goal
 
 pub first_told-requires-clause-alone : goal.first_told-requires-clause-alone
@@ -29,8 +28,23 @@ first_told-requires-clause-lines c =
     (subst (λ (d : List Cell). TellsLines c.args.ex.now c.args.state.now d c.args.lines) (sym is.column)
     c.requires.lines))
 
-pub returns-then-keeps_shapes : goal.returns-then-keeps_shapes
-returns-then-keeps_shapes c = λ p st on.
+pub returns-then-breaks_shapes : goal.returns-then-breaks_shapes
+returns-then-breaks_shapes c = λ p st on.
+    let ex = c.args.ex.now in
+    let col = c.args.col.now.items in
+    let m = c.moment_of-moment.result in
+    let after = c.moment_of-moment.ensures.after p st in
+    let same = c.moment_of-moment.ensures.exercise in
+    let its = c.moment_of-moment.ensures.column in
+    let there : GoesOn m.exercise.now p (m.column.now ∷ []) =
+    subst (λ (e : Exercise). GoesOn e p (m.column.now ∷ [])) (sym same)
+    (subst (λ (d : List Cell). GoesOn ex p (d ∷ [])) (sym its) on) in
+    third_is_least ex p col m same its on
+    (sym (ap (λ e. newly_broken e p m.column.now 3) same ∙ ap (λ d. newly_broken ex p d 3) its)
+    ∙ sym (c.breaks_shapes.ensures p after there) ∙ c.if-breaks_shapes.true)
+
+pub returns : goal.returns
+returns c = λ p st on.
     let ex = c.args.ex.now in
     let col = c.args.col.now.items in
     let m = c.moment_of-moment.result in
@@ -43,4 +57,4 @@ returns-then-keeps_shapes c = λ p st on.
     told_is_least ex p col m same its c.in_ok-rule.rule
     (c.in_ok-rule.ensures p after) on
     (sym (ap (λ e. newly_broken e p m.column.now 3) same ∙ ap (λ d. newly_broken ex p d 3) its)
-    ∙ OnTrue_at c.if-keeps_shapes.true c.keeps_shapes.ensures p after there)
+    ∙ sym (c.breaks_shapes.ensures p after there) ∙ c.if-breaks_shapes.false)
