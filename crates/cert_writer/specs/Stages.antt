@@ -60,14 +60,10 @@ pub record AreLines (t : Matter) (lines : Lines) : Type 0 where
   pub stage : IsStage t.exercise lines.stage
   pub walk : IsWriting t lines.walk
 
--- a line, if there is one; and bytes behind it
+-- a line, if there is one
 abbrev pub line_of : Option ArrayString → List ℕ
 line_of None = []
 line_of (Some line) = line.bytes
-
-abbrev pub lines_with : Option ArrayString → List ℕ → List ℕ
-lines_with None later = []
-lines_with (Some line) later = line.bytes ++ later
 
 -- all lines that a form has behind the text of a head
 abbrev pub all_lines : Matter → Form → List ℕ

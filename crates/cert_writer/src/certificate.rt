@@ -21,10 +21,10 @@ use crate::begin::{begin, room_for_lines};
 use crate::copy::head_of;
 use crate::head::head_text;
 use crate::lines::Lines;
-use crate::write::{is_within, write_parts};
+use crate::next::TaskLines;
 use cert_law::{Case, weights_are_small};
 use cert_text::{CertHead, CertWrite, Form};
-use claim_writer::{KeptLines, write_kept};
+use claim_writer::{KeptLines, is_within, write_kept, write_parts};
 use fux_grid::{Exercise, Score};
 use fux_port::{Failed, Sink};
 use menu_tails::MenuTails;
@@ -59,7 +59,7 @@ fn write_counted<K: Sink>(
         return write_kept(text, kept, sink);
     }
     begin(lines, form, case, tables);
-    write_parts(lines, case, tables, text, sink)
+    write_parts(&TaskLines { case, tables }, lines, text, sink)
 }
 
 /// Writes the certificate of a form, of a head that holds.
@@ -108,7 +108,11 @@ pub(crate) fn write_for_head<K: Sink>(
     };
     begin(&mut lines, form, &case, tables);
     let mut kept = KeptLines::new(alloc);
-    if !is_within(&mut lines, &case, tables, &mut kept, text.len()) {
+    let source = TaskLines {
+        case: &case,
+        tables,
+    };
+    if !is_within(&source, &mut lines, &mut kept, text.len()) {
         return Err(CertWrite::TooLong);
     }
     match write_counted(&mut lines, form, &case, tables, &kept, text.as_str(), sink) {

@@ -10,7 +10,6 @@ mod entries;
 mod head;
 mod lines;
 mod next;
-mod write;
 
 pub use certificate::certify_form;
 pub use copy::head_of;

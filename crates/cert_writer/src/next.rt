@@ -4,8 +4,9 @@ ghost use Rattle.std.specs.Prelude.{◌≡◌, ◌<◌, ◌≤◌, ◌++◌, [],
 ghost use Rattle.cert_law.specs.Cases.{matter_of};
 ghost use Rattle.cert_tree.specs.Writing.{claims_with};
 ghost use Rattle.cert_text.specs.Lines.{IsClaim};
-ghost use Rattle.cert_writer.specs.Stages.{AreLines, IsStage, line_of, lines_left, lines_with, stage_text};
+ghost use Rattle.cert_writer.specs.Stages.{AreLines, IsStage, line_of, lines_left, stage_text};
 ghost use Rattle.cert_writer.specs.Writing.{IsTask, IsWriting, to_come};
+ghost use Rattle.claim_writer.specs.Sources.{lines_with};
 
 use crate::entries::{column_entry, stage_after, stage_from, start_entry};
 use crate::lines::{Lines, Stage};
@@ -13,6 +14,7 @@ use arrayvec::ArrayString;
 use cert_law::{Case, PrefixKnown, TailedCase};
 use cert_text::{Claim, write_claim, write_potential};
 use cert_tree::Walk;
+use claim_writer::{LineSource, line_from};
 use floor_tables::Tables;
 use menu_tails::MenuTails;
 
@@ -30,16 +32,6 @@ fn next_claim(
         (to_come (matter_of case.now) walk.new) }
 {
     cert_tree::next_claim(&TailedCase::new(*case, tables), walk)
-}
-
-/// A line of up to thirteen bytes.
-fn line_from(text: &str) -> ArrayString<13>
-    requires { length text.now ≤ 13 }
-    ensures { result.bytes ≡ text.now }
-{
-    let mut line = ArrayString::new();
-    line.push_str(text);
-    line
 }
 
 /// The line that comes next before the first claim's. There is none where the claims come next.
@@ -70,11 +62,7 @@ fn next_stated(stage: &mut Stage, case: &Case<'_>, tables: &Tables<'_>) -> Optio
 }
 
 /// The line that comes next.
-pub(crate) fn next_line(
-    lines: &mut Lines,
-    case: &Case<'_>,
-    tables: &MenuTails<'_>,
-) -> Option<ArrayString<13>>
+fn next_line(lines: &mut Lines, case: &Case<'_>, tables: &MenuTails<'_>) -> Option<ArrayString<13>>
     requires task { IsTask (matter_of case.now) tables.now }
     requires lines { AreLines (matter_of case.now) lines.old }
     ensures lines { AreLines (matter_of case.now) lines.new }
@@ -87,4 +75,27 @@ pub(crate) fn next_line(
     }
     let claim = next_claim(&mut lines.walk, case, tables)?;
     Some(line_from(write_claim(claim).as_str()))
+}
+
+/// The lines of a certificate behind the text of its head.
+#[derive(Clone, Copy)]
+pub(crate) struct TaskLines<'a, 'b> {
+    pub(crate) case: &'a Case<'a>,
+    pub(crate) tables: &'b MenuTails<'b>,
+}
+
+impl<'a, 'b> LineSource for TaskLines<'a, 'b> {
+    ghost use Rattle.cert_law.specs.Cases.{matter_of};
+    ghost use Rattle.cert_writer.specs.Stages.{AreLines, lines_left};
+    ghost use Rattle.cert_writer.specs.Writing.{IsTask};
+
+    type Place = Lines;
+
+    ghost stands = { λ s lines. IsTask (matter_of s.case.now) s.tables.now × AreLines (matter_of s.case.now) lines };
+
+    ghost left = { λ s lines. lines_left (matter_of s.case.now) lines };
+
+    fn next_line(&self, lines: &mut Lines) -> Option<ArrayString<13>> {
+        next_line(lines, self.case, self.tables)
+    }
 }

@@ -9,6 +9,7 @@ ghost use Rattle.fux_port.specs.Counts.{Rose};
 ghost use Rattle.fux_port.specs.Written.{StopsShort, appended};
 
 use crate::kept::{KeptLines, write_kept};
+use crate::next::ClaimLines;
 use crate::write::{is_within, write_parts};
 use cert_text::{CertWrite, Claim};
 use cert_tree::{ClaimTree, Walk, begin_again, room_for_walk};
@@ -43,7 +44,7 @@ fn write_counted<T: ClaimTree<Claim = Claim>, K: Sink>(
         return write_kept(text, kept, sink);
     }
     begin_again(it, walk);
-    write_parts(it, walk, text, sink)
+    write_parts(&ClaimLines { it }, walk, text, sink)
 }
 
 /// Writes a text, and behind it the own claim of each node of a tree that is owed, from the root
@@ -87,7 +88,8 @@ pub fn write_with_claims<T: ClaimTree<Claim = Claim>, K: Sink>(
     };
     begin_again(it, &mut walk);
     let mut kept = KeptLines::new(alloc);
-    if !is_within(it, &mut walk, &mut kept, text.len()) {
+    let lines = ClaimLines { it };
+    if !is_within(&lines, &mut walk, &mut kept, text.len()) {
         return Err(CertWrite::TooLong);
     }
     match write_counted(it, &mut walk, &kept, text, sink) {

@@ -3,8 +3,8 @@ use Rattle.std.proofs.lemmas.Result.{on_err_weaker, on_ok_weaker}
 use Rattle.fux_port.specs.Written.{StopsShort, appended}
 use Rattle.cert_writer.proofs.certificate.write_counted.Goals as goal
 
-pub write_parts-requires-clause-lines : goal.write_parts-requires-clause-lines
-write_parts-requires-clause-lines g c = c.begin.ensures.lines
+pub write_parts-requires : goal.write_parts-requires
+write_parts-requires g c = record { stands = (c.requires.task, c.begin.ensures.lines) }
 
 pub returns-then-kept-clause-ok : goal.returns-then-kept-clause-ok
 returns-then-kept-clause-ok g c =

@@ -7,10 +7,8 @@ use Rattle.fux_port.specs.Written.{StopsShort, appended}
 use Rattle.fux_port.proofs.Stands.{not_ok}
 use Rattle.cert_writer.proofs.certificate.write_for_head.Goals as goal
 
-pub is_within-requires-clause-lines : goal.is_within-requires-clause-lines
-is_within-requires-clause-lines g c =
-    let t : Matter = record { exercise = c.args.ex.now; sheet = c.args.sheet.now; head = c.args.head.now } in
-    c.begin.ensures.lines
+pub is_within-requires-clause-stands : goal.is_within-requires-clause-stands
+is_within-requires-clause-stands g c = (c.requires.task, c.begin.ensures.lines)
 
 pub returns-then-not-is_within-clause-too_long : goal.returns-then-not-is_within-clause-too_long
 returns-then-not-is_within-clause-too_long g c = λ _.
@@ -18,6 +16,9 @@ returns-then-not-is_within-clause-too_long g c = λ _.
     whole_too_long t c.args.form (string_bytes c.in-Ok.text) c.begin.new.lines c.begin.ensures c.in-Ok.ensures
     c.len.result c.is_within.result (c.len.ensures ∙ c.in-Ok.text.bytes.ok.0) c.is_within.ensures.fits
     c.if-not-is_within.true
+
+pub write_counted-requires-clause-room : goal.write_counted-requires-clause-room
+write_counted-requires-clause-room g c = c.is_within.ensures.stands.1.walk.is.room
 
 pub write_counted-requires-clause-kept : goal.write_counted-requires-clause-kept
 write_counted-requires-clause-kept g c = λ all.

@@ -4,6 +4,11 @@ use Rattle.claim_writer.proofs.Wholes.{whole_text}
 use Rattle.fux_port.specs.Written.{StopsShort, appended}
 use Rattle.claim_writer.proofs.whole.write_counted.Goals as goal
 
+pub write_parts-requires : goal.write_parts-requires
+write_parts-requires g c = record {
+  stands = (c.requires.lines, record { is = c.begin_again.ensures.walk; told = c.begin_again.ensures.told });
+}
+
 pub returns-then-kept-clause-ok : goal.returns-then-kept-clause-ok
 returns-then-kept-clause-ok g c =
     let text = c.args.text.now in

@@ -12,8 +12,12 @@ returns-then-not-is_within-clause-too_long g c = λ _.
     c.args.text.now c.begin_again.new.walk c.begin_again.ensures.claims c.is_within.result
     c.is_within.ensures.fits c.if-not-is_within.true
 
+pub is_within-requires-clause-stands : goal.is_within-requires-clause-stands
+is_within-requires-clause-stands g c =
+    (c.requires.lines, record { is = c.begin_again.ensures.walk; told = c.begin_again.ensures.told })
+
 pub write_counted-requires-clause-room : goal.write_counted-requires-clause-room
-write_counted-requires-clause-room g c = c.is_within.ensures.writing.is.room
+write_counted-requires-clause-room g c = c.is_within.ensures.stands.1.is.room
 
 pub write_counted-requires-clause-kept : goal.write_counted-requires-clause-kept
 write_counted-requires-clause-kept g c = λ all.
