@@ -25,6 +25,7 @@ use cert_text::{CertFault, CertHead, Form, Refused, Why};
 use floor_tables::TableFault;
 use fux_grid::Exercise;
 use fux_port::{Failed, Shelf};
+use menu_tails::MenuTails;
 use penalty_sheet::Sheet;
 use price_check::{SharpCase, list_floors, list_numbers, priced_lists, webs_of};
 use price_lists::{first_high, lists_stated};
@@ -152,7 +153,8 @@ fn judge_lists<R: Threads + Sync, F: Shelf>(
         sheet,
         head,
     };
-    let it = SharpCase::new(case, space.tables(), lines, &floors);
+    let tables = MenuTails::new(alloc, exercise, space.tables())?;
+    let it = SharpCase::new(case, &tables, lines, &floors);
     let checker = SharpChecker::open(alloc, it)?;
     judge_claims(shelf, name, reader, checker)
 }

@@ -9,8 +9,9 @@ use Rattle.std.proofs.lemmas.Bool.{and_parts, ltb-true}
 use Rattle.cert_law.specs.Cases.{IsCase}
 use Rattle.cert_law.specs.Certificates.{is_open}
 use Rattle.cert_law.specs.Claims.{IsNoBetter, IsTrueOf}
-use Rattle.cert_law.specs.Known.{IsKnown, IsStepOf as IsPlainStepOf, column_after, is_step_of, tree_in as plain_tree}
+use Rattle.cert_law.specs.Known.{IsKnown, IsStepOf as IsPlainStepOf, KeepsKnown, column_after, is_step_of, tree_in as plain_tree}
 use Rattle.cert_law.specs.Prefixes.{IsSmall}
+use Rattle.cert_law.specs.declared.known.PrefixKnown.{PrefixKnown}
 use Rattle.cert_law.specs.Tails.{tail_of, used_floor}
 use Rattle.cert_law.specs.Writer.{first_claim, is_no_better, is_setting_of, least_break}
 use Rattle.cert_law.proofs.KnownLemmas.{known_small}
@@ -78,6 +79,23 @@ module _ (s : Sharp) (known : SharpKnown) where
 
   pub plain_small : IsCase s.case → IsOfSome (IsSharpKnown s) known → IsSmall known.own.judged
   plain_small case it = known_small (plain_of s.case) known.own case (record { node = it.node; is_of = it.is_of.own })
+
+-- more that is known without lists is more that is known
+module _ (s : Sharp) (known : SharpKnown) (own : PrefixKnown) (kept : KeepsKnown (plain_of s.case) known.own own) where
+  pub sharp_kept : (p : List (List Cell)) → IsSharpKnown s known p → IsSharpKnown s (record known { own = own }) p
+  sharp_kept p is = record { own = kept p is.own; places = is.places; tail = is.tail }
+
+  pub sharp_step : (k : ℕ) → IsStepOf s k known → IsStepOf s k (record known { own = own })
+  sharp_step k it = record {
+    node = it.node;
+    is_open = record {
+      is_of = sharp_kept it.node it.is_open.is_of;
+      claim = it.is_open.claim;
+      says = it.is_open.says;
+      holds = it.is_open.holds;
+    };
+    step = it.step;
+  }
 
 -- ---- webs
 

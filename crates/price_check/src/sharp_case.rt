@@ -13,7 +13,7 @@ use crate::floors::{ListFloor, MOST_LISTS, first_places, next_places, tail_by};
 use cert_law::{Case, PrefixKnown, TailedCase, first_claim, is_open, is_true};
 use cert_text::{CertHead, Claim};
 use cert_tree::ClaimTree;
-use floor_tables::Tables;
+use menu_tails::MenuTails;
 use price_text::PriceLine;
 use priced_paths::Place;
 use std::marker::Model;
@@ -31,7 +31,7 @@ pub struct SharpKnown {
 #[derive(Drop)]
 pub struct SharpCase<'a, 'f> {
     case: Case<'a>,
-    plain: TailedCase<'a, Tables<'a>>,
+    plain: TailedCase<'a, MenuTails<'a>>,
     lines: &'a [PriceLine],
     floors: &'a [ListFloor<'f>],
 }
@@ -58,7 +58,7 @@ impl<'a, 'f> SharpCase<'a, 'f> {
     /// A case with the lists that lines state, for its exercise and its sheet.
     pub fn new(
         case: Case<'a>,
-        tables: &'a Tables<'a>,
+        tables: &'a MenuTails<'a>,
         lines: &'a [PriceLine],
         floors: &'a [ListFloor<'f>],
     ) -> SharpCase<'a, 'f>
@@ -174,6 +174,24 @@ impl<'a, 'f> ClaimTree for SharpCase<'a, 'f> {
         self.is_true(&next, claim)
     }
 
+    fn judge_behind(
+        &self,
+        known: &mut SharpKnown,
+        number: usize,
+        claim: Claim,
+        found: &mut Option<SharpKnown>,
+    ) -> bool {
+        // A strict break is told without lists.
+        if let Claim::Broken(_) = claim {
+            return self
+                .plain
+                .judge_behind(&mut known.own, number, claim, &mut None);
+        }
+        let next = self.behind(known, number);
+        *found = Some(next);
+        self.is_true(&next, claim)
+    }
+
     fn own_claim(&self, known: &SharpKnown) -> Claim {
         first_claim(&self.case, &known.own.judged, known.tail)
     }
@@ -185,6 +203,22 @@ impl<'a, 'f> ClaimTree for SharpCase<'a, 'f> {
             return plain;
         }
         let next = self.behind(known, number);
+        self.own_claim(&next)
+    }
+
+    fn tell_behind(
+        &self,
+        known: &mut SharpKnown,
+        number: usize,
+        found: &mut Option<SharpKnown>,
+    ) -> Claim {
+        // A strict break is told without lists.
+        let plain = self.plain.tell_behind(&mut known.own, number, &mut None);
+        if let Claim::Broken(_) = plain {
+            return plain;
+        }
+        let next = self.behind(known, number);
+        *found = Some(next);
         self.own_claim(&next)
     }
 }

@@ -20,6 +20,7 @@ use fux_grid::Score;
 use fux_pitch::Memory;
 use fux_port::Sink;
 use list_writer::{least_lines, lines_within, text_behind};
+use menu_tails::MenuTails;
 use price_check::{SharpCase, list_floors, list_numbers, priced_lists, webs_of};
 use price_lists::{lists_are_fit, lists_stated};
 use price_rounds::tuned_prices;
@@ -71,7 +72,8 @@ fn write_by_lines<R: Threads + Sync, K: Sink>(
         sheet,
         head,
     };
-    let case = SharpCase::new(case, space.tables(), lines, &floors);
+    let tables = MenuTails::new(alloc, exercise, space.tables())?;
+    let case = SharpCase::new(case, &tables, lines, &floors);
     write_priced(alloc, &case, text.as_str(), sink)
 }
 

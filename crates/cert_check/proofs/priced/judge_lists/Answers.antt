@@ -13,7 +13,9 @@ use Rattle.cert_file.specs.Subjects.{IsOpened}
 use Rattle.cert_file.specs.declared.verdict.Verdict.{Verdict}
 use Rattle.cert_law.specs.Rests.{HasSmallWeights}
 use Rattle.fux_grid.specs.declared.cell.Cell.{Cell}
+use Rattle.floor_tables.specs.Tables.{AreNarrow, Task}
 use Rattle.fux_grid.specs.declared.exercise.Exercise.{Exercise}
+use Rattle.fux_grid.specs.Exercises.{IsValid}
 use Rattle.fux_port.specs.Counts.{Rose}
 use Rattle.penalty_sheet.specs.declared.sheet.Sheet.{Sheet}
 use Rattle.price_check.proofs.LargeLists.{told_large}
@@ -83,11 +85,20 @@ new-it-requires-clause-case g c =
     is_case c.args.space.now c.exercise-exercise.result.now c.sheet-sheet.result.now c.args.head.now
     c.exercise-exercise.ensures.value c.sheet-sheet.ensures c.exercise-exercise.ensures.valid c.requires.front.sound
 
+pub new-tables-requires : goal.new-tables-requires
+new-tables-requires g c =
+    let there = c.exercise-exercise.ensures.value in
+    record {
+      valid = subst IsValid (sym there) c.exercise-exercise.ensures.valid;
+      narrow = subst AreNarrow (sym there) c.tables.ensures.narrow;
+      same = ap (λ (t : Task). t.exercise) c.tables.ensures.value ∙ sym there;
+    }
+
 pub new-it-requires-clause-tables : goal.new-it-requires-clause-tables
 new-it-requires-clause-tables g c =
     has_tails c.args.space.now c.exercise-exercise.result.now c.sheet-sheet.result.now c.args.head.now
-    c.exercise-exercise.ensures.value c.sheet-sheet.ensures c.tables.result.now c.tables.ensures.value
-    c.tables.ensures.narrow
+    c.exercise-exercise.ensures.value c.sheet-sheet.ensures c.in_ok-tables.tables
+    (c.in_ok-tables.ensures ∙ c.tables.ensures.value) c.tables.ensures.narrow
 
 pub new-it-requires-clause-few : goal.new-it-requires-clause-few
 new-it-requires-clause-few g c =

@@ -3,7 +3,9 @@ use Rattle.std.specs.List.{AllByRecursion}
 use Rattle.std.proofs.lemmas.List.{length-map}
 use Rattle.std.proofs.lemmas.Result.{err_from_is_err_and}
 use Rattle.cert_law.proofs.PrefixTruths.{sound}
+use Rattle.floor_tables.specs.Tables.{AreNarrow, Task}
 use Rattle.fux_grid.specs.declared.exercise.Exercise.{Exercise}
+use Rattle.fux_grid.specs.Exercises.{IsValid}
 use Rattle.list_writer.specs.Stating.{FitBehind}
 use Rattle.penalty_sheet.specs.declared.sheet.Sheet.{Sheet}
 use Rattle.price_check.proofs.LargeLists.{none_large, told_large}
@@ -73,6 +75,24 @@ new-case-requires-clause-case g c =
     rw (c.exercise-exercise.ensures.value, c.sheet-sheet.ensures) record {
       valid = c.exercise-exercise.ensures.valid;
       sound = sound c.args.space.now.exercise c.args.space.now.sheet c.args.head.now c.requires.holds;
+    }
+
+pub new-tables-requires : goal.new-tables-requires
+new-tables-requires g c =
+    let there = c.exercise-exercise.ensures.value in
+    record {
+      valid = subst IsValid (sym there) c.exercise-exercise.ensures.valid;
+      narrow = subst AreNarrow (sym there) c.tables.ensures.narrow;
+      same = ap (λ (t : Task). t.exercise) c.tables.ensures.value ∙ sym there;
+    }
+
+pub new-case-requires-clause-tables : goal.new-case-requires-clause-tables
+new-case-requires-clause-tables g c =
+    let are = c.in_ok-tables.ensures ∙ c.tables.ensures.value in
+    record {
+      exercise = ap (λ (t : Task). t.exercise) are ∙ sym c.exercise-exercise.ensures.value;
+      sheet = ap (λ (t : Task). t.sheet) are ∙ sym c.sheet-sheet.ensures;
+      narrow = subst AreNarrow (sym c.exercise-exercise.ensures.value) c.tables.ensures.narrow;
     }
 
 pub new-case-requires-clause-few : goal.new-case-requires-clause-few
