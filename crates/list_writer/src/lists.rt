@@ -9,7 +9,6 @@ use crate::stating::Stating;
 use fux_grid::Exercise;
 use fux_pitch::{Memory, Pitch};
 use melody_rules::place_of;
-use open_ends::Keeps;
 use penalty_sheet::Sheet;
 use price_rounds::Tuned;
 use price_text::{Keys, PriceLine, put_lists};
@@ -85,7 +84,7 @@ fn put_list(
     requires { IsStating ex.now sheet.now stating.old }
     ensures { OnOk result (IsStating ex.now sheet.now stating.new) }
 {
-    stating.put(ex, sheet, keeps_line(tuned.keeps))?;
+    stating.put(ex, sheet, keeps_line(tuned))?;
     let keys = first_keys(tuned.keys.as_slice());
     let cases = PriceLine::Cases {
         voice: tuned.voice,
@@ -105,11 +104,11 @@ fn put_list(
     Ok(())
 }
 
-/// The line of what a list keeps.
-fn keeps_line(keeps: Keeps) -> PriceLine {
+/// The line of what each list keeps.
+fn keeps_line(tuned: &Tuned) -> PriceLine {
     PriceLine::Keeps {
-        turns: keeps.turns,
-        runs: keeps.runs,
+        turns: tuned.turns,
+        runs: tuned.runs,
     }
 }
 
@@ -165,7 +164,7 @@ fn lines_of_lists(
 ) -> Result<Vec<PriceLine>, Memory>
     ensures { IfOk result (λ lines. CanBeStated ex.now sheet.now (map line_of lines.items)) }
 {
-    let mut stating = Stating::plain(alloc, ex, sheet, tuned.keeps)?;
+    let mut stating = Stating::plain(alloc, ex, sheet, tuned.turns, tuned.runs)?;
     for k in 0..count.min(tuned.lists.len()) {
         if is_repeated(tuned, k) {
             continue;

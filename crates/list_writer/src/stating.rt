@@ -11,7 +11,6 @@ ghost use Rattle.priced_floors.specs.declared.charges.TheConstants.{SCALE};
 
 use fux_grid::Exercise;
 use fux_pitch::{Memory, Pitch};
-use open_ends::Keeps;
 use penalty_sheet::{Sheet, weight};
 use price_text::{Before, PriceLine, after, price_place};
 use priced_floors::SCALE;
@@ -125,17 +124,15 @@ impl Stating {
         alloc: Global,
         ex: &Exercise,
         sheet: &Sheet,
-        keeps: Keeps,
+        turns: bool,
+        runs: bool,
     ) -> Result<Stating, Memory>
         ensures { IfOk result (IsStating ex.now sheet.now) }
     {
         let _ = ex;
         let _ = sheet;
         let mut lines = Vec::new(alloc);
-        let line = PriceLine::Keeps {
-            turns: keeps.turns,
-            runs: keeps.runs,
-        };
+        let line = PriceLine::Keeps { turns, runs };
         let before = after(&Before::nothing(), &line);
         lines.push(line)?;
         Ok(Stating { lines, before })

@@ -1,15 +1,16 @@
 -- Each part of the open ends goes on through a lawful setting (`passing-followed` and so on), and
 -- so do all of them (`leads_on`).
-use Rattle.std.specs.Prelude.{◌≡◌, ◌≤◌, ◌<◌, ℕ, ◌+◌, ◌*◌, ◌&&◌, ◌||◌, Bool, true, false, List, [], ◌∷◌, ◌++◌, Option, Some, None, IsSomeAnd, length, slice_index_or, if◌then◌else◌, refl}
+use Rattle.std.specs.Prelude.{◌≡◌, ◌≤◌, ◌<◌, ℕ, ◌+◌, ◌*◌, ◌&&◌, ◌||◌, Bool, true, false, List, [], ◌∷◌, ◌++◌, Option, Some, None, IsSomeAnd, length, slice_index_or, refl}
 use Rattle.std.specs.Option.{option_map}
 use Rattle.std.proofs.Common.{ap, ap₂, arith}
+use Rattle.std.proofs.Math.Nat.{mul-le-mul_right}
 use Rattle.std.proofs.lemmas.Bool.{and_parts}
 use Rattle.fux_grid.specs.declared.cell.Cell.{Cell}
 use Rattle.fux_grid.specs.declared.exercise.Exercise.{Exercise}
 use Rattle.fux_grid.specs.Cells.{cell_in}
 use Rattle.fux_grid.specs.Columns.{Columns, earlier, newest_column}
-use Rattle.fux_grid.specs.Exercises.{IsValid, columns_in, species_in}
-use Rattle.dissonance_rules.specs.Clashes.{passing_rule, resolution_rule}
+use Rattle.fux_grid.specs.Exercises.{IsValid, species_in}
+use Rattle.dissonance_rules.specs.Clashes.{resolution_rule}
 use Rattle.penalty_sheet.specs.declared.sheet.Sheet.{Sheet}
 use Rattle.penalty_sheet.specs.Weights.{weight_of}
 use Rattle.fux_judge.specs.Lawful.{IsLawful}
@@ -36,7 +37,7 @@ use Rattle.open_ends.specs.Parallels as parallels
 use Rattle.open_ends.specs.Parts.{FollowsLawful, HasVoices, both_after}
 use Rattle.open_ends.specs.Passing.{breaks_passing, passing_in}
 use Rattle.open_ends.specs.Passing as passing
-use Rattle.open_ends.specs.Runs.{run_toll, runs_ended, runs_in, runs_paid}
+use Rattle.open_ends.specs.Runs.{run_toll, runs_ended, runs_paid}
 use Rattle.open_ends.specs.Runs as runs
 use Rattle.open_ends.specs.Suspended.{has_ligatures, is_bad_at, is_unprepared_at, preparation_rule, size_rule, starts_late_after, starts_late_in}
 use Rattle.open_ends.specs.Suspended as suspended
@@ -49,8 +50,8 @@ use Rattle.open_ends.proofs.KeepsShapes.{shapes-followed}
 use Rattle.open_ends.proofs.LeadLaw.{never_lacks}
 use Rattle.open_ends.proofs.LigatureLaw.{resolved}
 use Rattle.open_ends.proofs.PassingLaw.{left_well, reached_well}
-use Rattle.open_ends.proofs.RunsTold.{runs-none, tells_runs}
 use Rattle.open_ends.proofs.Settles.{here, settles}
+use Rattle.open_ends.proofs.SomeRuns.{some-none, some_ended, some_follow}
 use Rattle.open_ends.proofs.SuspensionLaw.{prepared, well_sized}
 use Rattle.open_ends.proofs.TurnLaw.{never_turns_badly}
 
@@ -146,19 +147,9 @@ module _ (ex : Exercise) (keeps : Keeps) (voices : HasVoices ex) where
 
   pub runs-followed : FollowsLawful ex runs.nothing (runs.open_in ex keeps) (runs.open_after ex keeps)
   runs-followed = record {
-    first = begins keeps.runs;
-    next = λ p col more lawful. ap Some (goes_on p col (here ex voices.most_voices p col more lawful) keeps.runs);
+    first = some-none ex keeps.runs;
+    next = λ p col more lawful. ap Some (some_follow ex keeps.runs p col (here ex voices.most_voices p col more lawful));
   }
-    where
-      begins : (b : Bool) → (if b then runs_in ex [] else runs.nothing) ≡ runs.nothing
-      begins true = runs-none ex
-      begins false = refl
-
-      goes_on : (p : Columns) (col : List Cell) → length p < columns_in ex → (b : Bool)
-          → (if b then runs.runs_after ex (length p) (if b then runs_in ex p else runs.nothing) col else runs.nothing)
-          ≡ (if b then runs_in ex (p ++ col ∷ []) else runs.nothing)
-      goes_on p col few true = (tells_runs ex p col few).kept
-      goes_on p col few false = refl
 
   -- ---- all of them
 
@@ -175,27 +166,29 @@ module _ (ex : Exercise) (keeps : Keeps) (voices : HasVoices ex) where
 module _ (ex : Exercise) (sheet : Sheet) (keeps : Keeps) (voices : HasVoices ex) (there : ex.cantus_voice < ex.voices)
     (p : Columns) (col : List Cell) (more : Columns) (lawful : IsLawful ex (p ++ col ∷ more)) where
   abbrev paid : ℕ
-  paid = runs_paid sheet keeps (length p) (ends_in ex keeps p).second col
+  paid = runs_paid sheet (length p) (ends_in ex keeps p).second col
 
   pub leads_on : LeadsOn ex sheet keeps p col
   leads_on = record {
     cost = paid;
     is = ap (option_map (λ ends. (ends, paid))) ((ends-followed ex keeps voices).next p col more lawful);
-    settles = no_less keeps.runs _ (settles ex voices.most_voices p col more lawful there sheet);
+    settles = no_less _ (settles ex voices.most_voices p col more lawful there sheet);
   }
     where
-      ended : runs_ended (length p) (runs_in ex p) col ≡ cost_at run_toll ex (p ++ col ∷ []) (length p)
-      ended = (tells_runs ex p col (here ex voices.most_voices p col more lawful)).ended
+      ended : runs_ended (length p) (runs.open_in ex keeps p) col ≤ cost_at run_toll ex (p ++ col ∷ []) (length p)
+      ended = some_ended ex keeps.runs p col (here ex voices.most_voices p col more lawful)
 
-      no_less : (kept : Bool) (link : Option ℕ)
+      within : (own cost full most : ℕ) → own + full ≤ most → cost ≤ full → own + cost ≤ most
+      within own cost full most h k = omega (arith, h, k)
+
+      no_less : (link : Option ℕ)
           → IsSomeAnd link (λ own. own + cost_at run_toll ex (p ++ col ∷ []) (length p) * weight_of sheet run_toll
           ≤ newly_paid ex sheet p col)
-          → IsSomeAnd link (λ own. own + (if kept
-          then runs_ended (length p) (if kept then runs_in ex p else runs.nothing) col * weight_of sheet run_toll else 0)
-          ≤ newly_paid ex sheet p col)
-      no_less kept None some = some
-      no_less true (Some own) some = let n = ap (λ k. own + k * weight_of sheet run_toll) ended in omega (arith, some, n)
-      no_less false (Some own) some = omega (arith, some)
+          → IsSomeAnd link (λ own. own + paid ≤ newly_paid ex sheet p col)
+      no_less None some = some
+      no_less (Some own) some =
+          within own paid (cost_at run_toll ex (p ++ col ∷ []) (length p) * weight_of sheet run_toll)
+          (newly_paid ex sheet p col) some (mul-le-mul_right (weight_of sheet run_toll) ended)
 
 pub ends-none : (ex : Exercise) (keeps : Keeps) (voices : HasVoices ex) → ends_in ex keeps [] ≡ nothing
 ends-none ex keeps voices = (ends-followed ex keeps voices).first

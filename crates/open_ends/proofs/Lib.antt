@@ -13,6 +13,7 @@ pub mod SamePitches
 pub mod SameRuns
 pub mod SameTurns
 pub mod Settles
+pub mod SomeRuns
 pub mod Sounding
 pub mod SuspensionLaw
 pub mod TurnLaw

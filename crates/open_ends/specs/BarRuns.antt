@@ -6,6 +6,7 @@ use Rattle.fux_grid.specs.Columns.{Columns}
 use Rattle.fux_grid.specs.Exercises.{bar_of}
 use Rattle.rule_law.specs.Bars.{begins_bar}
 use Rattle.motion_rules.specs.Runs.{sound_imperfect}
+use Rattle.open_ends.specs.declared.keeps.Pairs.{Pairs}
 use Rattle.open_ends.specs.declared.runs.Run.{Run}
 
 -- the columns that begin bars, of some that go from the newest to the oldest
@@ -48,9 +49,20 @@ no_run = record { thirds = 0; sixths = 0 }
 abbrev pub for_pairs : (ℕ → ℕ → Run) → List Run
 for_pairs run = run 0 1 ∷ run 0 2 ∷ run 0 3 ∷ run 1 2 ∷ run 1 3 ∷ run 2 3 ∷ []
 
+-- the run of a pair that is followed; none of one that isn't
+abbrev pub if_followed : Bool → Run → Run
+if_followed followed run = if followed then run else no_run
+
 -- the run of a pair among these, by its number
 abbrev pub run_of : List Run → ℕ → Run
 run_of runs pair = slice_index_or runs pair no_run
+
+-- those of some pairs, and none of the others
+abbrev pub of_pairs : Pairs → List Run → List Run
+of_pairs pairs runs =
+    if_followed pairs.v01 (run_of runs 0) ∷ if_followed pairs.v02 (run_of runs 1)
+    ∷ if_followed pairs.v03 (run_of runs 2) ∷ if_followed pairs.v12 (run_of runs 3)
+    ∷ if_followed pairs.v13 (run_of runs 4) ∷ if_followed pairs.v23 (run_of runs 5) ∷ []
 
 -- how the run of two voices goes on with a column that begins a bar
 abbrev pub run_after : Exercise → ℕ → Run → List Cell → ℕ → ℕ → Run
@@ -65,6 +77,16 @@ pairs_after ex i kept now =
     run_after ex i (run_of kept 0) now 0 1 ∷ run_after ex i (run_of kept 1) now 0 2
     ∷ run_after ex i (run_of kept 2) now 0 3 ∷ run_after ex i (run_of kept 3) now 1 2
     ∷ run_after ex i (run_of kept 4) now 1 3 ∷ run_after ex i (run_of kept 5) now 2 3 ∷ []
+
+-- and those of some pairs
+abbrev pub followed_after : Exercise → Pairs → ℕ → List Run → List Cell → List Run
+followed_after ex pairs i kept now =
+    if_followed pairs.v01 (run_after ex i (run_of kept 0) now 0 1)
+    ∷ if_followed pairs.v02 (run_after ex i (run_of kept 1) now 0 2)
+    ∷ if_followed pairs.v03 (run_after ex i (run_of kept 2) now 0 3)
+    ∷ if_followed pairs.v12 (run_after ex i (run_of kept 3) now 1 2)
+    ∷ if_followed pairs.v13 (run_after ex i (run_of kept 4) now 1 3)
+    ∷ if_followed pairs.v23 (run_after ex i (run_of kept 5) now 2 3) ∷ []
 
 -- the run of two voices comes to four bars with the column
 abbrev pub comes_to_four : Run → List Cell → ℕ → ℕ → Bool

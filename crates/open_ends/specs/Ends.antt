@@ -67,7 +67,7 @@ rules_after =
 -- refuses the column
 abbrev pub ends_after : Exercise → Sheet → Keeps → ℕ → OpenEnds → List Cell → List Cell → Option (OpenEnds × ℕ)
 ends_after ex sheet keeps i kept before now =
-    option_map (λ ends. (ends, runs_paid sheet keeps i kept.second now))
+    option_map (λ ends. (ends, runs_paid sheet i kept.second now))
     (both_after rules_after runs.open_after ex keeps i kept before now)
 
 -- a column leads on from what is kept of a prefix to what is kept of the longer one, and settles at

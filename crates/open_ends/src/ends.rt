@@ -50,7 +50,7 @@ pub fn ends_after(
     ensures bound { IfSome result (λ step. step.1 ≤ 2 ^ 20) }
 {
     let ends = OpenEnds::after(ex, keeps, i, kept, before, now)?;
-    Some((ends, runs_paid(sheet, keeps, i, &kept.second, now)))
+    Some((ends, runs_paid(sheet, i, &kept.second, now)))
 }
 
 /// From prefix to prefix of a lawful setting no step is refused, each leads to what is kept behind

@@ -26,7 +26,7 @@ mod turns;
 pub use both::Both;
 pub use cadences::OpenCadences;
 pub use ends::{OpenEnds, OpenRules, ends_after, lawful_steps_lead_on};
-pub use keeps::Keeps;
+pub use keeps::{Keeps, Pairs};
 pub use keys::mixed;
 pub use ligatures::OpenLigature;
 pub use notes::{OpenTurns, Way};

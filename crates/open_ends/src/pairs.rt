@@ -3,6 +3,7 @@
 ghost use Rattle.std.specs.Prelude.{◌≡◌, ◌≤◌, if◌then◌else◌};
 ghost use Rattle.open_ends.specs.BarRuns as words;
 
+use crate::keeps::Pairs;
 use crate::runs::Run;
 use fux_grid::{Cell, Exercise};
 use motion_rules::sound_imperfect;
@@ -52,17 +53,41 @@ fn run_after(ex: &Exercise, i: usize, kept: Run, now: &[Cell], v: usize, w: usiz
     }
 }
 
-/// The same of all pairs.
-pub(crate) fn pairs_after(ex: &Exercise, i: usize, kept: &[Run; 6], now: &[Cell]) -> [Run; 6]
-    ensures { result ≡ words.pairs_after ex.now i kept.now now.now }
+/// The same where the pair is followed, and no run where it isn't.
+fn if_followed(
+    followed: bool,
+    ex: &Exercise,
+    i: usize,
+    kept: Run,
+    now: &[Cell],
+    v: usize,
+    w: usize,
+) -> Run
+    ensures { result ≡ words.if_followed followed (words.run_after ex.now i kept now.now v w) }
+{
+    if !followed {
+        return Run::none();
+    }
+    run_after(ex, i, kept, now, v, w)
+}
+
+/// The same of some pairs.
+pub(crate) fn followed_after(
+    ex: &Exercise,
+    pairs: Pairs,
+    i: usize,
+    kept: &[Run; 6],
+    now: &[Cell],
+) -> [Run; 6]
+    ensures { result ≡ words.followed_after ex.now pairs i kept.now now.now }
 {
     [
-        run_after(ex, i, kept[0], now, 0, 1),
-        run_after(ex, i, kept[1], now, 0, 2),
-        run_after(ex, i, kept[2], now, 0, 3),
-        run_after(ex, i, kept[3], now, 1, 2),
-        run_after(ex, i, kept[4], now, 1, 3),
-        run_after(ex, i, kept[5], now, 2, 3),
+        if_followed(pairs.v01, ex, i, kept[0], now, 0, 1),
+        if_followed(pairs.v02, ex, i, kept[1], now, 0, 2),
+        if_followed(pairs.v03, ex, i, kept[2], now, 0, 3),
+        if_followed(pairs.v12, ex, i, kept[3], now, 1, 2),
+        if_followed(pairs.v13, ex, i, kept[4], now, 1, 3),
+        if_followed(pairs.v23, ex, i, kept[5], now, 2, 3),
     ]
 }
 

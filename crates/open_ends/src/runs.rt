@@ -4,9 +4,9 @@
 ghost use Rattle.std.specs.Prelude.{◌≡◌, ◌≤◌, ◌<◌, ◌^◌};
 ghost use Rattle.open_ends.specs.Runs as words;
 
-use crate::keeps::Keeps;
+use crate::keeps::{Keeps, Pairs};
 use crate::keys::mixed;
-use crate::pairs::{come_to_four, pairs_after};
+use crate::pairs::{come_to_four, followed_after};
 use crate::part::OpenPart;
 use fux_grid::{Cell, Exercise};
 use penalty_sheet::{Sheet, weight};
@@ -40,7 +40,7 @@ impl Run {
     }
 }
 
-/// The runs of each pair of voices.
+/// The runs of each pair of voices that is followed, and none of the others.
 #[derive(Clone, Copy, Debug, PartialEq, Eq)]
 pub struct OpenRuns {
     /// In the order of `rule_law::voice_pairs`.
@@ -48,14 +48,14 @@ pub struct OpenRuns {
 }
 
 /// What is kept of them behind column `i`.
-fn runs_after(ex: &Exercise, i: usize, kept: &OpenRuns, now: &[Cell]) -> OpenRuns
-    ensures { result ≡ words.runs_after ex.now i kept.now now.now }
+fn kept_after(ex: &Exercise, pairs: Pairs, i: usize, kept: &OpenRuns, now: &[Cell]) -> OpenRuns
+    ensures { result ≡ words.kept_after ex.now pairs i kept.now now.now }
 {
     if !begins_bar(i) {
         return *kept;
     }
     OpenRuns {
-        pairs: pairs_after(ex, i, &kept.pairs, now),
+        pairs: followed_after(ex, pairs, i, &kept.pairs, now),
     }
 }
 
@@ -71,14 +71,11 @@ pub fn runs_ended(i: usize, kept: &OpenRuns, now: &[Cell]) -> u32
     }
 }
 
-/// What they cost there, by weight; nothing where runs aren't followed.
-pub(crate) fn runs_paid(sheet: &Sheet, keeps: Keeps, i: usize, kept: &OpenRuns, now: &[Cell]) -> u32
-    ensures value { result ≡ words.runs_paid sheet.now keeps i kept.now now.now }
+/// What they cost there, by weight.
+pub(crate) fn runs_paid(sheet: &Sheet, i: usize, kept: &OpenRuns, now: &[Cell]) -> u32
+    ensures value { result ≡ words.runs_paid sheet.now i kept.now now.now }
     ensures bound { result ≤ 2 ^ 20 }
 {
-    if !keeps.runs {
-        return 0;
-    }
     runs_ended(i, kept, now) * u32::from(weight(sheet, 14))
 }
 
@@ -117,10 +114,7 @@ impl OpenPart for OpenRuns {
         _before: &[Cell],
         now: &[Cell],
     ) -> Option<OpenRuns> {
-        if !keeps.runs {
-            return Some(OpenRuns::none());
-        }
-        Some(runs_after(ex, i, kept, now))
+        Some(kept_after(ex, keeps.runs, i, kept, now))
     }
 
     fn lawful_steps_go_on() {}

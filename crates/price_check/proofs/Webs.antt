@@ -1,16 +1,17 @@
 -- What is kept has a number of its own (`same_keeps`), so lists that keep the same have the same web
 -- (`web_moved`), and where there is one for each number, each list has its own (`has_web`), and none
 -- has too large a one (`none_large`).
-use Rattle.std.proofs.Common.{◌≡◌, ⊎_elim, ℕ, ◌+◌, ◌<◌, Bool, true, false, List, [], ◌∷◌, ◌++◌, Option, Some, None, arith, get_or, length, slice_get, slice_index_or, refl, ap, ap₂, subst, sym, ◌∙◌}
-use Rattle.std.specs.Prelude.{Err, Result, if◌then◌else◌, map, option_map}
+use Rattle.std.proofs.Common.{◌≡◌, ⊎_elim, ℕ, ◌+◌, ◌*◌, ◌<◌, Bool, true, false, List, [], ◌∷◌, ◌++◌, Option, Some, None, arith, get_or, length, slice_get, slice_index_or, refl, ap, ap₂, subst, sym, ◌∙◌}
+use Rattle.std.specs.Prelude.{Err, Result, map, option_map}
 use Rattle.std.proofs.lemmas.Bool.{cases_lt}
 use Rattle.std.proofs.lemmas.List.{get_or_append_left, get_or_default, get_or_past, get_or_push}
 use Rattle.std.proofs.lemmas.Option.{get_or_from_slice_get, slice_get-map}
 use Rattle.floor_tables.specs.Tables.{Task}
 use Rattle.fux_grid.specs.Exercises.{columns_in}
 use Rattle.open_ends.specs.declared.keeps.Keeps.{Keeps}
+use Rattle.open_ends.specs.declared.keeps.Pairs.{Pairs}
 use Rattle.price_check.specs.declared.priced_list.PricedList.{PricedList}
-use Rattle.price_check.specs.Woven.{AreOf, AreWebs, FitsFor, HasLargeWeb, HasWeb, IsLargeList, IsLargeWeb, IsWebFor, IsWebOf, keeps_number, list_priced, web_under}
+use Rattle.price_check.specs.Woven.{AreOf, AreWebs, FitsFor, HasLargeWeb, HasWeb, IsLargeList, IsLargeWeb, IsWebFor, IsWebOf, keeps_number, list_priced, pairs_number, web_under, with_bit}
 use Rattle.price_law.specs.PriceLists.{PriceList}
 use Rattle.priced_floors.specs.declared.kept.Kept.{Kept}
 use Rattle.priced_floors.specs.Kept.{kept_of, step_of}
@@ -18,30 +19,51 @@ use Rattle.priced_floors.specs.PricedLaws.{breadth_of}
 use Rattle.priced_paths.specs.declared.web.Web.{Web}
 use Rattle.priced_paths.specs.Webs.{IsWeb}
 
-bits_same : (a b c d : Bool) → (if a then 2 else 0) + (if b then 1 else 0) ≡ (if c then 2 else 0) + (if d then 1 else 0)
-    → (a ≡ c) × (b ≡ d)
-bits_same true true true true e = (refl, refl)
-bits_same true true true false e = absurd (omega (arith, e))
-bits_same true true false true e = absurd (omega (arith, e))
-bits_same true true false false e = absurd (omega (arith, e))
-bits_same true false true true e = absurd (omega (arith, e))
-bits_same true false true false e = (refl, refl)
-bits_same true false false true e = absurd (omega (arith, e))
-bits_same true false false false e = absurd (omega (arith, e))
-bits_same false true true true e = absurd (omega (arith, e))
-bits_same false true true false e = absurd (omega (arith, e))
-bits_same false true false true e = (refl, refl)
-bits_same false true false false e = absurd (omega (arith, e))
-bits_same false false true true e = absurd (omega (arith, e))
-bits_same false false true false e = absurd (omega (arith, e))
-bits_same false false false true e = absurd (omega (arith, e))
-bits_same false false false false e = (refl, refl)
+bit_same : (a b : Bool) (m n : ℕ) → with_bit a m ≡ with_bit b n → (a ≡ b) × (m ≡ n)
+bit_same true true m n e = (refl, omega (arith, e))
+bit_same true false m n e = absurd (omega (arith, e))
+bit_same false true m n e = absurd (omega (arith, e))
+bit_same false false m n e = (refl, omega (arith, e))
+
+-- the numbers of pairs from the second, the third and so on
+abbrev from_v02 : Pairs → ℕ
+from_v02 pairs = with_bit pairs.v02 (with_bit pairs.v03 (with_bit pairs.v12 (with_bit pairs.v13 (with_bit pairs.v23 0))))
+
+abbrev from_v03 : Pairs → ℕ
+from_v03 pairs = with_bit pairs.v03 (with_bit pairs.v12 (with_bit pairs.v13 (with_bit pairs.v23 0)))
+
+abbrev from_v12 : Pairs → ℕ
+from_v12 pairs = with_bit pairs.v12 (with_bit pairs.v13 (with_bit pairs.v23 0))
+
+abbrev from_v13 : Pairs → ℕ
+from_v13 pairs = with_bit pairs.v13 (with_bit pairs.v23 0)
+
+abbrev from_v23 : Pairs → ℕ
+from_v23 pairs = with_bit pairs.v23 0
+
+abbrev six : Bool → Bool → Bool → Bool → Bool → Bool → Pairs
+six a b c d e f = record { v01 = a; v02 = b; v03 = c; v12 = d; v13 = e; v23 = f }
+
+pairs_same : (a b : Pairs) → pairs_number a ≡ pairs_number b → a ≡ b
+pairs_same a b e =
+    let first = bit_same a.v01 b.v01 (from_v02 a) (from_v02 b) e in
+    let second = bit_same a.v02 b.v02 (from_v03 a) (from_v03 b) first.1 in
+    let third = bit_same a.v03 b.v03 (from_v12 a) (from_v12 b) second.1 in
+    let fourth = bit_same a.v12 b.v12 (from_v13 a) (from_v13 b) third.1 in
+    let fifth = bit_same a.v13 b.v13 (from_v23 a) (from_v23 b) fourth.1 in
+    let sixth = bit_same a.v23 b.v23 0 0 fifth.1 in
+    ap (λ v. six v a.v02 a.v03 a.v12 a.v13 a.v23) first.0
+    ∙ ap (λ v. six b.v01 v a.v03 a.v12 a.v13 a.v23) second.0
+    ∙ ap (λ v. six b.v01 b.v02 v a.v12 a.v13 a.v23) third.0
+    ∙ ap (λ v. six b.v01 b.v02 b.v03 v a.v13 a.v23) fourth.0
+    ∙ ap (λ v. six b.v01 b.v02 b.v03 b.v12 v a.v23) fifth.0
+    ∙ ap (λ v. six b.v01 b.v02 b.v03 b.v12 b.v13 v) sixth.0
 
 pub same_keeps : (a b : Keeps) → keeps_number a ≡ keeps_number b → a ≡ b
 same_keeps a b e =
-    let bits = bits_same a.turns a.runs b.turns b.runs e in
-    let of : Bool → Bool → Keeps = λ turns runs. record { turns = turns; runs = runs } in
-    ap₂ of bits.0 bits.1
+    let bits = bit_same a.turns b.turns (pairs_number a.runs) (pairs_number b.runs) e in
+    let of : Bool → Pairs → Keeps = λ turns runs. record { turns = turns; runs = runs } in
+    ap₂ of bits.0 (pairs_same a.runs b.runs bits.1)
 
 abbrev IsWebIn : Task → Keeps → Web Kept → Type 0
 IsWebIn task keeps web =
@@ -55,12 +77,19 @@ web_moved one other web task number is =
     subst (λ (k : Keeps). IsWebIn other.space.space.now k web) (same_keeps one.space.keeps other.space.keeps number)
     (subst (λ (t : Task). IsWebIn t one.space.keeps web) task is)
 
--- it is one of four
-keeps_few : (a b : Bool) → (if a then 2 else 0) + (if b then 1 else 0) < 4
-keeps_few true true = omega arith
-keeps_few true false = omega arith
-keeps_few false true = omega arith
-keeps_few false false = omega arith
+-- it is one of 128
+bit_few : (bit : Bool) (number most : ℕ) → number < most → with_bit bit number < 2 * most
+bit_few true number most h = omega (arith, h)
+bit_few false number most h = omega (arith, h)
+
+pairs_few : (pairs : Pairs) → pairs_number pairs < 64
+pairs_few pairs =
+    bit_few pairs.v01 (from_v02 pairs) 32 (bit_few pairs.v02 (from_v03 pairs) 16
+    (bit_few pairs.v03 (from_v12 pairs) 8 (bit_few pairs.v12 (from_v13 pairs) 4
+    (bit_few pairs.v13 (from_v23 pairs) 2 (bit_few pairs.v23 0 1 (omega arith))))))
+
+keeps_few : (keeps : Keeps) → keeps_number keeps < 128
+keeps_few keeps = bit_few keeps.turns (pairs_number keeps.runs) 64 (pairs_few keeps.runs)
 
 abbrev IsLargeIn : Task → Keeps → Type 0
 IsLargeIn task keeps = IsLargeWeb task.exercise task.sheet keeps
@@ -90,7 +119,7 @@ large_list task lists k it of there large = record {
 }
 
 -- none is where none is under any number
-pub none_large : (task : Task) (lists : List PricedList) → AreOf task lists → ((n : ℕ) → n < 4 → FitsFor lists n)
+pub none_large : (task : Task) (lists : List PricedList) → AreOf task lists → ((n : ℕ) → n < 128 → FitsFor lists n)
     → HasLargeWeb task.exercise task.sheet (map list_priced lists) → ⊥
 none_large task lists of fits h =
     at (slice_get lists h.place) refl (sym (slice_get-map list_priced lists h.place) ∙ h.there)
@@ -99,7 +128,7 @@ none_large task lists of fits h =
     at None is e = cc
     at (Some it) is e =
         let same : list_priced it ≡ h.list = some_list (list_priced it) h.list e in
-        fits (keeps_number it.space.keeps) (keeps_few it.space.keeps.turns it.space.keeps.runs) h.place it is refl
+        fits (keeps_number it.space.keeps) (keeps_few it.space.keeps) h.place it is refl
         (subst (λ (t : Task). IsLargeIn t it.space.keeps) (sym (of h.place it is))
         (subst (λ (l : PriceList). IsLargeIn task l.keeps) (sym same) h.large))
       where
@@ -113,9 +142,9 @@ read_there lists k own it is there = is ∙ get_or_from_slice_get lists k it own
 
 -- where the webs under all numbers are made, each list has its own
 pub has_web : (lists : List PricedList) (webs : List (Option (Web Kept)))
-    → ((n : ℕ) → n < 4 → IsWebFor lists n (slice_index_or webs n None)) → AreWebs lists webs
+    → ((n : ℕ) → n < 128 → IsWebFor lists n (slice_index_or webs n None)) → AreWebs lists webs
 has_web lists webs all j it there =
-    at (web_under webs it.space.keeps) refl (all n (keeps_few it.space.keeps.turns it.space.keeps.runs))
+    at (web_under webs it.space.keeps) refl (all n (keeps_few it.space.keeps))
   where
     n : ℕ
     n = keeps_number it.space.keeps

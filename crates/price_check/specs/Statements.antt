@@ -7,6 +7,7 @@ use Rattle.cert_law.specs.Certificates.{is_open}
 use Rattle.cert_law.specs.Claims.{longer_prefixes}
 use Rattle.fux_grid.specs.declared.cell.Cell.{Cell}
 use Rattle.fux_grid.specs.declared.exercise.Exercise.{Exercise}
+use Rattle.open_ends.specs.Choices.{keeps_of}
 use Rattle.open_ends.specs.declared.keeps.Keeps.{Keeps}
 use Rattle.penalty_sheet.specs.declared.sheet.Sheet.{Sheet}
 use Rattle.price_check.specs.Woven.{IsLargeWeb}
@@ -29,7 +30,7 @@ stated_tree ex sheet head lines =
 
 -- what a list that is stated keeps
 abbrev pub kept_by : StatedList → Keeps
-kept_by stated = record { turns = stated.turns; runs = stated.runs }
+kept_by stated = keeps_of stated.turns stated.runs
 
 -- one of the lists that lines state keeps too much for a web
 pub record HasLargeStated (ex : Exercise) (sheet : Sheet) (lines : List Line) : Type 0 where

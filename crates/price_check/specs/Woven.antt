@@ -1,9 +1,10 @@
 -- Lists with the settings that they price, the webs of what they keep, and the numbers worked there.
-use Rattle.std.specs.Prelude.{◌≡◌, ◌≢◌, ℕ, ◌+◌, ◌<◌, ◌≤◌, List, [], Option, Some, None, Vec, length, slice_get, slice_index_or, if◌then◌else◌}
+use Rattle.std.specs.Prelude.{◌≡◌, ◌≢◌, ℕ, ◌+◌, ◌*◌, ◌<◌, ◌≤◌, Bool, List, [], Option, Some, None, Vec, length, slice_get, slice_index_or, if◌then◌else◌}
 use Rattle.std.specs.declared.alloc.Global.{Global}
 use Rattle.fux_grid.specs.declared.exercise.Exercise.{Exercise}
 use Rattle.fux_grid.specs.Exercises.{columns_in}
 use Rattle.open_ends.specs.declared.keeps.Keeps.{Keeps}
+use Rattle.open_ends.specs.declared.keeps.Pairs.{Pairs}
 use Rattle.penalty_sheet.specs.declared.sheet.Sheet.{Sheet}
 use Rattle.floor_tables.specs.Tables.{Task}
 use Rattle.price_check.specs.declared.priced_list.PricedList.{PricedList}
@@ -26,9 +27,19 @@ list_priced it = record { keeps = it.space.keeps; charges = it.space.charges.now
 abbrev pub AreOf : Task → List PricedList → Type 0
 AreOf task lists = (j : ℕ) (it : PricedList) → slice_get lists j ≡ Some it → it.space.space.now ≡ task
 
--- the number of what is kept, among all that may be
+-- a number with a bit more
+abbrev pub with_bit : Bool → ℕ → ℕ
+with_bit bit number = 2 * number + (if bit then 1 else 0)
+
+-- the number of some pairs of voices, among the 64 choices of them
+abbrev pub pairs_number : Pairs → ℕ
+pairs_number pairs =
+    with_bit pairs.v01 (with_bit pairs.v02 (with_bit pairs.v03 (with_bit pairs.v12 (with_bit pairs.v13
+    (with_bit pairs.v23 0)))))
+
+-- the number of what is kept, among the 128 that may be
 abbrev pub keeps_number : Keeps → ℕ
-keeps_number keeps = (if keeps.turns then 2 else 0) + (if keeps.runs then 1 else 0)
+keeps_number keeps = with_bit keeps.turns (pairs_number keeps.runs)
 
 -- a web is that of what is kept of settings
 abbrev pub IsWebOf : PricedSpace → Web Kept → Type 0

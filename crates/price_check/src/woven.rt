@@ -1,6 +1,6 @@
 //! Lists with the settings that they price, the webs of what they keep, and the numbers worked there.
 
-ghost use Rattle.std.specs.Prelude.{◌≡◌, ◌≢◌, ◌<◌, ℕ, Some, None, Err, length, map, slice_get, IfOk, IfSome, OnOk};
+ghost use Rattle.std.specs.Prelude.{◌≡◌, ◌≢◌, ◌+◌, ◌*◌, ◌<◌, ◌≤◌, ℕ, Some, None, Err, length, map, slice_get, IfOk, IfSome, OnOk};
 ghost use Rattle.std.specs.List.{AllByRecursion};
 ghost use Rattle.price_check.specs.Floors.{AreFor, list_of as list_of_floor};
 ghost use Rattle.price_check.specs.Woven.{AreCaseNumbers, AreEachNumbers, AreNumbersAt, AreNumbersIn, AreNumbersOver, AreOf, AreOfOne, AreWebs, FitsFor, HasLargeWeb, HasWeb, IsWebFor, IsWebOf, list_priced};
@@ -13,7 +13,7 @@ ghost use Rattle.priced_paths.specs.declared.states.WebFault.TheVariants.{TooLar
 use crate::floors::ListFloor;
 use crate::priced_list::PricedList;
 use fux_pitch::{List as Numbers, Memory};
-use open_ends::Keeps;
+use open_ends::{Keeps, Pairs};
 use path_sums::PathSums;
 use price_lists::OwnList;
 use priced_floors::{Kept, PricedSpace};
@@ -60,14 +60,32 @@ pub fn priced_lists<'a>(
     Ok(lists)
 }
 
+/// A number with a bit more.
+fn with_bit(bit: bool, number: usize) -> usize
+    requires { number < 64 }
+    ensures value { result ≡ words.with_bit bit number }
+    ensures few { result ≤ 2 * number + 1 }
+{
+    let low = if bit { 1 } else { 0 };
+    2 * number + low
+}
+
+/// The number of some pairs of voices, among all choices of them.
+fn pairs_number(pairs: Pairs) -> usize
+    ensures value { result ≡ words.pairs_number pairs }
+    ensures few { result < 64 }
+{
+    let fifth_on = with_bit(pairs.v13, with_bit(pairs.v23, 0));
+    let third_on = with_bit(pairs.v03, with_bit(pairs.v12, fifth_on));
+    with_bit(pairs.v01, with_bit(pairs.v02, third_on))
+}
+
 /// The number of what is kept, among all that may be.
 fn keeps_number(keeps: Keeps) -> usize
     ensures value { result ≡ words.keeps_number keeps }
-    ensures few { result < 4 }
+    ensures few { result < 128 }
 {
-    let turns = if keeps.turns { 2 } else { 0 };
-    let runs = if keeps.runs { 1 } else { 0 };
-    turns + runs
+    with_bit(keeps.turns, pairs_number(keeps.runs))
 }
 
 /// The first list that keeps what has this number.
@@ -118,10 +136,10 @@ pub fn webs_of(alloc: Global, lists: &[PricedList<'_>]) -> Result<Vec<Option<Web
     ensures large { result ≡ Err too_large → (task : Task) → AreOf task lists.now
         → HasLargeWeb task.exercise task.sheet (map list_priced lists.now) }
 {
-    let Ok(mut webs) = Vec::with_capacity(alloc, 4) else {
+    let Ok(mut webs) = Vec::with_capacity(alloc, 128) else {
         return Err(WebFault::Memory);
     };
-    for number in 0..4 {
+    for number in 0..128 {
         let web = web_with(alloc, lists, number)?;
         webs.push_reserved(web);
     }

@@ -3,6 +3,7 @@ use Rattle.std.specs.Prelude.{◌≡◌, ℕ, ◌+◌, ◌*◌, ◌/◌, ◌%◌
 use Rattle.std.specs.List.{range_with_len}
 use Rattle.fux_pitch.specs.declared.pitch.Pitch.{Pitch}
 use Rattle.melody_rules.specs.GaugeParts.{place_in}
+use Rattle.open_ends.specs.Choices.{keeps_of}
 use Rattle.penalty_sheet.specs.declared.sheet.Sheet.{Sheet}
 use Rattle.penalty_sheet.specs.Weights.{weight_of}
 use Rattle.price_law.specs.PriceLists.{PriceList}
@@ -105,7 +106,7 @@ is_plain lines = has_no_keys (cases_of lines).1 && not (has_price lines)
 
 -- it is the list of prices that is stated
 pub record IsStated (sheet : Sheet) (stated : StatedList) (list : PriceList) : Type 0 where
-  pub keeps : list.keeps ≡ record { turns = stated.turns; runs = stated.runs }
+  pub keeps : list.keeps ≡ keeps_of stated.turns stated.runs
   pub scale : list.charges.scale ≡ SCALE
   pub strikes : list.charges.strikes.items ≡ all_prices stated.lines (length (cases_of stated.lines).1 + 1)
   pub voice : list.charges.voice ≡ (cases_of stated.lines).0

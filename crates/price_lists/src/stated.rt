@@ -231,9 +231,8 @@ fn list_of(
     }) (list_owned list)) }
 {
     let charges = charges_of(alloc, sheet, lines)?;
-    let keeps = Keeps { turns, runs };
     Ok(OwnList {
-        keeps,
+        keeps: Keeps::stated(turns, runs),
         charges,
         plain: is_plain(lines),
     })

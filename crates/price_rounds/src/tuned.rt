@@ -14,12 +14,13 @@ use priced_floors::{Charges, Prices};
 use species_space::SpeciesSpace;
 use std::alloc::Global;
 
-/// What is kept, the voice by whose greatest key cases go, and the keys that a line of it may
-/// start, from the greatest on; and for each list what strikes are charged, case by case, four
-/// voices each.
+/// Whether turning notes and runs are kept, the voice by whose greatest key cases go, and the keys
+/// that a line of it may start, from the greatest on; and for each list what strikes are charged,
+/// case by case, four voices each.
 #[derive(Drop)]
 pub struct Tuned {
-    pub keeps: Keeps,
+    pub turns: bool,
+    pub runs: bool,
     pub voice: u8,
     pub keys: Vec<u8>,
     pub lists: Vec<Vec<Prices>>,
@@ -75,9 +76,9 @@ fn put_lists(
     Ok(())
 }
 
-/// Prices for lists that keep as much as there is room for, sought in as many rounds as the budget
-/// allows: those of each try of `best`, so that a certificate by them need not claim much more than
-/// such a try opens. None where no web can be made.
+/// Prices for lists that keep as much as there is room for, of what a certificate can state, sought
+/// in as many rounds as the budget allows: those of each try of `best`, so that a certificate by
+/// them need not claim much more than such a try opens. None where no web can be made.
 pub fn tuned_prices(
     alloc: Global,
     space: &SpeciesSpace<'_>,
@@ -94,7 +95,8 @@ pub fn tuned_prices(
     woven.seek_on(alloc, &plain, &mut bids, budget)?;
     put_lists(&mut lists, alloc, &woven, &plain, &mut bids, budget)?;
     Ok(Some(Tuned {
-        keeps: woven.keeps,
+        turns: woven.keeps.turns,
+        runs: woven.keeps.runs.are_all(),
         voice: plain.voice,
         keys: summit_keys(alloc, space, plain.voice)?,
         lists,

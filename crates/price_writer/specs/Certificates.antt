@@ -13,6 +13,7 @@ use Rattle.fux_grid.specs.declared.exercise.Exercise.{Exercise}
 use Rattle.fux_grid.specs.Exercises.{columns_in}
 use Rattle.fux_port.specs.Written.{StopsShort, appended}
 use Rattle.list_writer.specs.Stating.{FitBehind}
+use Rattle.open_ends.specs.Choices.{keeps_of}
 use Rattle.open_ends.specs.declared.keeps.Keeps.{Keeps}
 use Rattle.penalty_sheet.specs.declared.sheet.Sheet.{Sheet}
 use Rattle.price_check.specs.Sharps.{Sharp, own_in, tree_in}
@@ -39,7 +40,7 @@ pub record IsPricedCertificateOf (ex : Exercise) (sheet : Sheet) (head : CertHea
 
 -- the least that a list keeps: nothing beside what always is
 abbrev pub least_kept : Keeps
-least_kept = record { turns = false; runs = false }
+least_kept = keeps_of false false
 
 -- the most bytes that the text of a head has
 abbrev pub longest_head : ℕ

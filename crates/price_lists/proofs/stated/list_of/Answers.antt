@@ -1,9 +1,8 @@
-use Rattle.std.proofs.Common.{refl}
 use Rattle.price_lists.proofs.stated.list_of.Goals as goal
 
 pub returns : goal.returns
 returns c = record {
-  keeps = refl;
+  keeps = c.stated.ensures;
   scale = c.in_ok-charges.ensures.scale;
   strikes = c.in_ok-charges.ensures.strikes;
   voice = c.in_ok-charges.ensures.voice;

@@ -5,6 +5,6 @@ use Rattle.list_writer.proofs.stating.Stating.plain.Goals as goal
 
 pub returns : goal.returns
 returns c =
-    plain_states c.args.ex.now c.args.sheet.now c.args.keeps.turns c.args.keeps.runs _
+    plain_states c.args.ex.now c.args.sheet.now c.args.turns c.args.runs _
     (one_line _ _ _ c.in_ok-push.ensures.items c.new-lines.ensures.items)
-    (c.after-before.ensures ∙ ap (λ b. after b (Keeps c.args.keeps.turns c.args.keeps.runs)) c.nothing.ensures)
+    (c.after-before.ensures ∙ ap (λ b. after b (Keeps c.args.turns c.args.runs)) c.nothing.ensures)
