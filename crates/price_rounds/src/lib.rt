@@ -3,6 +3,7 @@
 //! search answers.
 #![tactic(auto)]
 
+mod choices;
 mod keys;
 mod rounds;
 mod search;

@@ -13,7 +13,7 @@ ghost use Rattle.tree_search.specs.Outcomes.{IfFound, IfSpent, IsSpent, OnNothin
 
 use crate::keys::summit_keys;
 use crate::rounds::Bids;
-use crate::woven::{Woven, weave, weave_first};
+use crate::woven::{Woven, weave, weave_most};
 use floor_graphs::{Purse, front_of};
 use fux_pitch::Memory;
 use open_ends::Keeps;
@@ -274,8 +274,7 @@ fn search_most(
         (columns_in space.now.exercise)) }
     ensures paid { OnOk result (purse.new.left ≤ purse.old.left) }
 {
-    let most = [Keeps::all(), Keeps::runs_alone(), Keeps::turns_alone()];
-    let Some(woven) = weave_first(alloc, space, &most, plain, room_for(budget))? else {
+    let Some(woven) = weave_most(alloc, space, plain, room_for(budget))? else {
         return search_unpriced(alloc, space, known, budget);
     };
     woven.seek_on(alloc, plain, bids, budget)?;

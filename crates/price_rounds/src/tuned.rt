@@ -4,6 +4,7 @@ ghost use Rattle.std.specs.Prelude.{◌≡◌, ◌≤◌, length};
 ghost use Rattle.priced_floors.specs.Charges.{AreFairCharges, AreSmallCharges};
 ghost use Rattle.priced_floors.specs.declared.charges.TheConstants.{CASES, MOST_CHARGE, SCALE};
 
+use crate::choices::stated_choices;
 use crate::keys::summit_keys;
 use crate::rounds::Bids;
 use crate::search::{plain_charges, room_for};
@@ -88,7 +89,7 @@ pub fn tuned_prices(
     let mut bids = Bids::new(alloc, space.sheet(), &plain)?;
     let mut lists = Vec::new(alloc);
     put_first(&mut lists, alloc, space, &plain, &mut bids, budget)?;
-    let most = [Keeps::all(), Keeps::runs_alone(), Keeps::turns_alone()];
+    let most = stated_choices();
     let Some(woven) = weave_first(alloc, space, &most, &plain, room_for(budget))? else {
         return Ok(None);
     };

@@ -5,6 +5,7 @@ ghost use Rattle.priced_floors.specs.Charges.{AreFairCharges, AreSmallCharges};
 ghost use Rattle.priced_floors.specs.declared.charges.TheConstants.{CASES, MOST_CHARGE, SCALE};
 ghost use Rattle.price_rounds.specs.Woven.{IsWoven};
 
+use crate::choices::{finer_choices, stated_choices};
 use crate::rounds::{Bids, MORE_ROUNDS, ROUNDS};
 use crate::ways::{Ways, ways_of};
 use fux_pitch::Memory;
@@ -70,6 +71,29 @@ pub fn weave_first(
         }
     }
     weave(alloc, space, Keeps::least(), plain, room)
+}
+
+/// The web of as much as there is room for, by steps from what keeps most on.
+pub fn weave_most(
+    alloc: Global,
+    space: &SpeciesSpace<'_>,
+    plain: &Charges,
+    room: usize,
+) -> Result<Option<Woven>, Memory>
+    requires fair { AreFairCharges plain.now space.now.sheet }
+    requires small { AreSmallCharges MOST_CHARGE plain.now }
+    requires scale { plain.now.scale ≡ SCALE }
+    requires few { length plain.now.summits.items ≤ CASES }
+    ensures { IfOk result (λ made. IfSome made (λ woven.
+        IsWoven space.now.exercise space.now.sheet woven.keeps woven.web)) }
+{
+    let ex = space.exercise();
+    if ex.voices < 3 {
+        let most = stated_choices();
+        return weave_first(alloc, space, &most, plain, room);
+    }
+    let most = finer_choices(ex);
+    weave_first(alloc, space, &most, plain, room)
 }
 
 /// How many steps all rounds over a web may work whatever the budget is, and how many more for each
