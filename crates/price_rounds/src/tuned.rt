@@ -12,6 +12,7 @@ use crate::woven::{Woven, weave, weave_first};
 use fux_pitch::Memory;
 use open_ends::Keeps;
 use priced_floors::{Charges, Prices};
+use priced_paths::MOST_LABELS;
 use species_space::SpeciesSpace;
 use std::alloc::Global;
 
@@ -90,7 +91,8 @@ pub fn tuned_prices(
     let mut lists = Vec::new(alloc);
     put_first(&mut lists, alloc, space, &plain, &mut bids, budget)?;
     let most = stated_choices();
-    let Some(woven) = weave_first(alloc, space, &most, &plain, room_for(budget))? else {
+    let room = room_for(budget);
+    let Some(woven) = weave_first(alloc, space, &most, &plain, room, MOST_LABELS)? else {
         return Ok(None);
     };
     woven.seek_on(alloc, &plain, &mut bids, budget)?;

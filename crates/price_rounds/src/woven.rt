@@ -47,14 +47,24 @@ pub fn weave(
     Ok(Some(Woven { keeps, web, ways }))
 }
 
-/// The web of the first of these choices of what is kept where there aren't too many ways, or of
-/// what is always kept.
+/// How many labels the spots of a web have.
+fn labels_of(web: &Web<Kept>) -> usize {
+    let mut labels = 0usize;
+    for spot in web.spots.iter() {
+        labels = labels.saturating_add(spot.labels);
+    }
+    labels
+}
+
+/// The web of the first of these choices of what is kept where there aren't too many ways, nor more
+/// labels than these, or of what is always kept.
 pub fn weave_first(
     alloc: Global,
     space: &SpeciesSpace<'_>,
     choices: &[Keeps],
     plain: &Charges,
     room: usize,
+    labels: usize,
 ) -> Result<Option<Woven>, Memory>
     requires fair { AreFairCharges plain.now space.now.sheet }
     requires small { AreSmallCharges MOST_CHARGE plain.now }
@@ -65,7 +75,7 @@ pub fn weave_first(
 {
     for keeps in choices {
         if let Some(woven) = weave(alloc, space, *keeps, plain, room)? {
-            if woven.ways.is_some() {
+            if woven.ways.is_some() && labels_of(&woven.web) <= labels {
                 return Ok(Some(woven));
             }
         }
@@ -90,10 +100,10 @@ pub fn weave_most(
     let ex = space.exercise();
     if ex.voices < 3 {
         let most = stated_choices();
-        return weave_first(alloc, space, &most, plain, room);
+        return weave_first(alloc, space, &most, plain, room, usize::MAX);
     }
     let most = finer_choices(ex);
-    weave_first(alloc, space, &most, plain, room)
+    weave_first(alloc, space, &most, plain, room, usize::MAX)
 }
 
 /// How many steps all rounds over a web may work whatever the budget is, and how many more for each

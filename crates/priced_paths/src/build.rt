@@ -9,7 +9,7 @@ use tree_search::Space;
 
 /// How many labels are tried for each slot that there is room for. Most of them make no step, which
 /// is soon told.
-const LABELS_OF_A_SLOT: usize = 8;
+const LABELS_OF_A_SLOT: usize = 24;
 
 /// How many seats there are in which spots are looked up.
 const SEATS: usize = 65_536;
@@ -146,12 +146,18 @@ fn add_edges<P: Pricing>(
 /// How many depths a web may be ahead of what it may come to in the end.
 const DEPTHS_AHEAD: usize = 16;
 
-/// Whether a web that has come to a depth will be made of too many labels, if it goes on as it
+/// Whether what was counted up to a depth will be more than this in the end, if it goes on as it
 /// began.
-fn is_too_wide(tried: usize, depth: usize, height: usize, most: usize) -> bool {
-    let whole = LABELS_OF_A_SLOT.saturating_mul(most);
-    let part = (whole / height.max(1)).saturating_mul(depth.saturating_add(DEPTHS_AHEAD));
-    tried > part
+fn is_too_much(counted: usize, depth: usize, height: usize, most: usize) -> bool {
+    let part = (most / height.max(1)).saturating_mul(depth.saturating_add(DEPTHS_AHEAD));
+    counted > part
+}
+
+/// Whether a web that has come to a depth will be made of too many labels, or have too many slots.
+fn is_too_wide<K: Copy>(weaver: &Weaver<K>, depth: usize, height: usize, most: usize) -> bool {
+    let labels = LABELS_OF_A_SLOT.saturating_mul(most);
+    let slots = weaver.web.edges.len();
+    is_too_much(weaver.tried, depth, height, labels) || is_too_much(slots, depth, height, most)
 }
 
 /// A web of what is kept from the start on, each depth after the one before, unless it is too big
@@ -187,7 +193,7 @@ pub fn weave<P: Pricing>(
         if depth < height && !add_edges(pricing, &mut weaver, at, depth, kept, most)? {
             return Ok(None);
         }
-        if is_too_wide(weaver.tried, depth, height, most) {
+        if is_too_wide(&weaver, depth, height, most) {
             return Ok(None);
         }
     }
