@@ -81,9 +81,11 @@ module _ (ex : Exercise) (keeps : Keeps) (voices : HasVoices ex) where
   pub parallels-followed : FollowsLawful ex parallels.nothing (parallels.open_in ex keeps) (parallels.open_after ex keeps)
   parallels-followed =
       let Kept : List (List Cell) → OpenParallels = λ behind. record { pitches = bar_line_in ex behind } in
-      followed ex parallels.nothing (lines.is_read ex) Kept (λ i kept before now. parallels.still_open ex i kept now)
-      (λ i kept before now. arrives ex i kept.pitches now) refl (λ col behind. refl)
-      (λ read s lawful i here. never_arrives ex voices s lawful read i here)
+      followed ex parallels.nothing (parallels.is_followed ex keeps) Kept
+      (λ i kept before now. parallels.still_open ex i kept now) (λ i kept before now. arrives ex i kept.pitches now) refl
+      (λ col behind. refl)
+      (λ read s lawful i here. never_arrives ex voices s lawful (and_parts keeps.parallels (lines.is_read ex) read).1 i
+      here)
 
   pub cadences-followed : FollowsLawful ex cadences.nothing (cadences.open_in ex keeps) (cadences.open_after ex keeps)
   cadences-followed =

@@ -1,6 +1,6 @@
 -- What is kept where it is chosen by two words alone, as a certificate states it: turning notes or
--- none, and the runs of all pairs of voices or of none.
-use Rattle.std.specs.Prelude.{Bool}
+-- none, the runs of all pairs of voices or of none, and perfect intervals.
+use Rattle.std.specs.Prelude.{Bool, true}
 use Rattle.open_ends.specs.declared.keeps.Keeps.{Keeps}
 use Rattle.open_ends.specs.declared.keeps.Pairs.{Pairs}
 
@@ -10,4 +10,4 @@ all_if all = record { v01 = all; v02 = all; v03 = all; v12 = all; v13 = all; v23
 
 -- what is kept by two words
 abbrev pub keeps_of : Bool → Bool → Keeps
-keeps_of turns runs = record { turns = turns; runs = all_if runs }
+keeps_of turns runs = record { turns = turns; parallels = true; runs = all_if runs }

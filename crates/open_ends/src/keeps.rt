@@ -65,18 +65,22 @@ impl Pairs {
 pub struct Keeps {
     /// The latest turning notes of the species voice (S8).
     pub turns: bool,
+    /// The perfect intervals at the beginning of a bar (S18).
+    pub parallels: bool,
     /// Of which pairs of voices is kept how many bars in a row begin with thirds or with sixths
     /// (Q14).
     pub runs: Pairs,
 }
 
 impl Keeps {
-    /// Turning notes or not, and the runs of all pairs or of none: what a certificate may state.
+    /// Turning notes or not, the runs of all pairs or of none, and perfect intervals: what a
+    /// certificate may state.
     pub fn stated(turns: bool, runs: bool) -> Keeps
         ensures { result ≡ words.keeps_of turns runs }
     {
         Keeps {
             turns,
+            parallels: true,
             runs: Pairs::all_if(runs),
         }
     }
@@ -86,9 +90,18 @@ impl Keeps {
         Keeps::stated(true, true)
     }
 
-    /// Only what is always kept.
+    /// The least that a certificate may state.
     pub fn least() -> Keeps {
         Keeps::stated(false, false)
+    }
+
+    /// Only what is always kept.
+    pub fn barest() -> Keeps {
+        Keeps {
+            turns: false,
+            parallels: false,
+            runs: Pairs::all_if(false),
+        }
     }
 
     /// Of the dear parts turning notes alone.

@@ -2,6 +2,7 @@
 //! a column: the beginning of the next bar decides of them. A step after which S18 would be
 //! strictly broken is refused.
 
+ghost use Rattle.std.specs.Prelude.{◌≡◌};
 ghost use Rattle.open_ends.specs.Parallels as words;
 
 use crate::bar_lines::{arrives, bar_line_after, is_read};
@@ -17,6 +18,13 @@ use fux_pitch::Pitch;
 #[derive(Clone, Copy, Debug, PartialEq, Eq)]
 pub struct OpenParallels {
     pub pitches: [Option<Pitch>; 4],
+}
+
+/// Whether perfect intervals are followed, and S18 is asked.
+fn is_followed(ex: &Exercise, keeps: Keeps) -> bool
+    ensures { result ≡ words.is_followed ex.now keeps }
+{
+    keeps.parallels && is_read(ex)
 }
 
 impl OpenPart for OpenParallels {
@@ -42,13 +50,13 @@ impl OpenPart for OpenParallels {
 
     fn after(
         ex: &Exercise,
-        _keeps: Keeps,
+        keeps: Keeps,
         i: usize,
         kept: &OpenParallels,
         _before: &[Cell],
         now: &[Cell],
     ) -> Option<OpenParallels> {
-        if !is_read(ex) {
+        if !is_followed(ex, keeps) {
             return Some(OpenParallels::none());
         }
         if arrives(ex, i, &kept.pitches, now) {

@@ -61,9 +61,13 @@ pairs_same a b e =
 
 pub same_keeps : (a b : Keeps) → keeps_number a ≡ keeps_number b → a ≡ b
 same_keeps a b e =
-    let bits = bit_same a.turns b.turns (pairs_number a.runs) (pairs_number b.runs) e in
-    let of : Bool → Pairs → Keeps = λ turns runs. record { turns = turns; runs = runs } in
-    ap₂ of bits.0 (pairs_same a.runs b.runs bits.1)
+    let first = bit_same a.turns b.turns (with_bit a.parallels (pairs_number a.runs))
+    (with_bit b.parallels (pairs_number b.runs)) e in
+    let second = bit_same a.parallels b.parallels (pairs_number a.runs) (pairs_number b.runs) first.1 in
+    let of : Bool → Bool → Pairs → Keeps =
+    λ turns parallels runs. record { turns = turns; parallels = parallels; runs = runs } in
+    ap₂ (λ turns parallels. of turns parallels a.runs) first.0 second.0
+    ∙ ap (of b.turns b.parallels) (pairs_same a.runs b.runs second.1)
 
 abbrev IsWebIn : Task → Keeps → Web Kept → Type 0
 IsWebIn task keeps web =
@@ -77,7 +81,7 @@ web_moved one other web task number is =
     subst (λ (k : Keeps). IsWebIn other.space.space.now k web) (same_keeps one.space.keeps other.space.keeps number)
     (subst (λ (t : Task). IsWebIn t one.space.keeps web) task is)
 
--- it is one of 128
+-- it is one of 256
 bit_few : (bit : Bool) (number most : ℕ) → number < most → with_bit bit number < 2 * most
 bit_few true number most h = omega (arith, h)
 bit_few false number most h = omega (arith, h)
@@ -88,8 +92,10 @@ pairs_few pairs =
     (bit_few pairs.v03 (from_v12 pairs) 8 (bit_few pairs.v12 (from_v13 pairs) 4
     (bit_few pairs.v13 (from_v23 pairs) 2 (bit_few pairs.v23 0 1 (omega arith))))))
 
-keeps_few : (keeps : Keeps) → keeps_number keeps < 128
-keeps_few keeps = bit_few keeps.turns (pairs_number keeps.runs) 64 (pairs_few keeps.runs)
+keeps_few : (keeps : Keeps) → keeps_number keeps < 256
+keeps_few keeps =
+    bit_few keeps.turns (with_bit keeps.parallels (pairs_number keeps.runs)) 128
+    (bit_few keeps.parallels (pairs_number keeps.runs) 64 (pairs_few keeps.runs))
 
 abbrev IsLargeIn : Task → Keeps → Type 0
 IsLargeIn task keeps = IsLargeWeb task.exercise task.sheet keeps
@@ -119,7 +125,7 @@ large_list task lists k it of there large = record {
 }
 
 -- none is where none is under any number
-pub none_large : (task : Task) (lists : List PricedList) → AreOf task lists → ((n : ℕ) → n < 128 → FitsFor lists n)
+pub none_large : (task : Task) (lists : List PricedList) → AreOf task lists → ((n : ℕ) → n < 256 → FitsFor lists n)
     → HasLargeWeb task.exercise task.sheet (map list_priced lists) → ⊥
 none_large task lists of fits h =
     at (slice_get lists h.place) refl (sym (slice_get-map list_priced lists h.place) ∙ h.there)
@@ -142,7 +148,7 @@ read_there lists k own it is there = is ∙ get_or_from_slice_get lists k it own
 
 -- where the webs under all numbers are made, each list has its own
 pub has_web : (lists : List PricedList) (webs : List (Option (Web Kept)))
-    → ((n : ℕ) → n < 128 → IsWebFor lists n (slice_index_or webs n None)) → AreWebs lists webs
+    → ((n : ℕ) → n < 256 → IsWebFor lists n (slice_index_or webs n None)) → AreWebs lists webs
 has_web lists webs all j it there =
     at (web_under webs it.space.keeps) refl (all n (keeps_few it.space.keeps))
   where

@@ -37,9 +37,9 @@ pairs_number pairs =
     with_bit pairs.v01 (with_bit pairs.v02 (with_bit pairs.v03 (with_bit pairs.v12 (with_bit pairs.v13
     (with_bit pairs.v23 0)))))
 
--- the number of what is kept, among the 128 that may be
+-- the number of what is kept, among the 256 that may be
 abbrev pub keeps_number : Keeps → ℕ
-keeps_number keeps = with_bit keeps.turns (pairs_number keeps.runs)
+keeps_number keeps = with_bit keeps.turns (with_bit keeps.parallels (pairs_number keeps.runs))
 
 -- a web is that of what is kept of settings
 abbrev pub IsWebOf : PricedSpace → Web Kept → Type 0

@@ -62,7 +62,7 @@ pub fn priced_lists<'a>(
 
 /// A number with a bit more.
 fn with_bit(bit: bool, number: usize) -> usize
-    requires { number < 64 }
+    requires { number < 128 }
     ensures value { result ≡ words.with_bit bit number }
     ensures few { result ≤ 2 * number + 1 }
 {
@@ -83,9 +83,12 @@ fn pairs_number(pairs: Pairs) -> usize
 /// The number of what is kept, among all that may be.
 fn keeps_number(keeps: Keeps) -> usize
     ensures value { result ≡ words.keeps_number keeps }
-    ensures few { result < 128 }
+    ensures few { result < 256 }
 {
-    with_bit(keeps.turns, pairs_number(keeps.runs))
+    with_bit(
+        keeps.turns,
+        with_bit(keeps.parallels, pairs_number(keeps.runs)),
+    )
 }
 
 /// The first list that keeps what has this number.
@@ -136,10 +139,10 @@ pub fn webs_of(alloc: Global, lists: &[PricedList<'_>]) -> Result<Vec<Option<Web
     ensures large { result ≡ Err too_large → (task : Task) → AreOf task lists.now
         → HasLargeWeb task.exercise task.sheet (map list_priced lists.now) }
 {
-    let Ok(mut webs) = Vec::with_capacity(alloc, 128) else {
+    let Ok(mut webs) = Vec::with_capacity(alloc, 256) else {
         return Err(WebFault::Memory);
     };
-    for number in 0..128 {
+    for number in 0..256 {
         let web = web_with(alloc, lists, number)?;
         webs.push_reserved(web);
     }

@@ -1,11 +1,20 @@
 //! Which choices of what is kept are tried, and in which order. No clause speaks of it.
 
-use fux_grid::Exercise;
+use fux_grid::{Exercise, species_of};
 use open_ends::{Keeps, Pairs};
 
 /// What a certificate may state, what keeps most first.
 pub fn stated_choices() -> [Keeps; 3] {
     [Keeps::all(), Keeps::runs_alone(), Keeps::turns_alone()]
+}
+
+/// The runs of some pairs, with turning notes or without.
+fn some_runs(turns: bool, runs: Pairs) -> Keeps {
+    Keeps {
+        turns,
+        parallels: true,
+        runs,
+    }
 }
 
 /// The same, with steps between: of runs those of the species voice alone, and then that of it and
@@ -16,22 +25,16 @@ pub fn finer_choices(ex: &Exercise) -> [Keeps; 7] {
     [
         Keeps::all(),
         Keeps::runs_alone(),
-        Keeps {
-            turns: true,
-            runs: own,
-        },
-        Keeps {
-            turns: true,
-            runs: least,
-        },
+        some_runs(true, own),
+        some_runs(true, least),
         Keeps::turns_alone(),
-        Keeps {
-            turns: false,
-            runs: own,
-        },
-        Keeps {
-            turns: false,
-            runs: least,
-        },
+        some_runs(false, own),
+        some_runs(false, least),
     ]
+}
+
+/// Whether less may be kept of an exercise than a certificate may state: perfect intervals wait
+/// where the species voice has notes within bars.
+pub fn forgets_more(ex: &Exercise) -> bool {
+    matches!(species_of(ex, ex.species_voice), 2 | 3 | 5)
 }

@@ -11,6 +11,7 @@ ghost use Rattle.species_space.specs.Paths.{live_at};
 ghost use Rattle.tree_search.specs.Answer.{BoundsLeaves, HasNoLeaf, IsFirstLeast, IsOverBudget};
 ghost use Rattle.tree_search.specs.Outcomes.{IfFound, IfSpent, IsSpent, OnNothing};
 
+use crate::choices::forgets_more;
 use crate::keys::summit_keys;
 use crate::rounds::Bids;
 use crate::woven::{Woven, weave, weave_most};
@@ -309,6 +310,61 @@ fn search_most(
     }
 }
 
+/// The first leaf of least value where there is no room for the least web: by floors that keep less
+/// still, and where that is the same or has no room either, by the space's own.
+fn search_barest(
+    alloc: Global,
+    space: &SpeciesSpace<'_>,
+    plain: &Charges,
+    bids: &mut Bids,
+    known: u64,
+    budget: u32,
+    purse: &mut Purse,
+) -> Result<Outcome, Memory>
+    requires valid { IsValid space.now.exercise }
+    requires known { BoundsLeaves (live_at space.now.exercise space.now.sheet)
+        (columns_in space.now.exercise) known }
+    requires fair { AreFairCharges plain.now space.now.sheet }
+    requires small { AreSmallCharges MOST_CHARGE plain.now }
+    requires scale { plain.now.scale ≡ SCALE }
+    requires few { length plain.now.summits.items ≤ CASES }
+    ensures found { IfOk result
+        (λ outcome. IfFound outcome (IsFirstLeast (live_at space.now.exercise space.now.sheet)
+        (columns_in space.now.exercise))) }
+    ensures nothing { IfOk result
+        (λ outcome. OnNothing outcome (HasNoLeaf (live_at space.now.exercise space.now.sheet)
+        (columns_in space.now.exercise))) }
+    ensures bound { IfOk result
+        (λ outcome. IfSpent outcome (BoundsLeaves (live_at space.now.exercise space.now.sheet)
+        (columns_in space.now.exercise))) }
+    ensures kept { IfOk result (λ outcome. IfSpent outcome (λ least. known ≤ least)) }
+    ensures over { IfOk result (λ outcome. IsSpent outcome
+        → IsOverBudget (live_at space.now.exercise space.now.sheet) (columns_in space.now.exercise)
+        budget) }
+    ensures agrees { IfOk result (AgreesWithAnswers (live_at space.now.exercise space.now.sheet)
+        (columns_in space.now.exercise)) }
+    ensures paid { OnOk result (purse.new.left ≤ purse.old.left) }
+{
+    if !forgets_more(space.exercise()) {
+        return search_unpriced(alloc, space, known, budget);
+    }
+    let Some(barest) = weave(alloc, space, Keeps::barest(), plain, room_for(budget))? else {
+        return search_unpriced(alloc, space, known, budget);
+    };
+    barest.seek(alloc, plain, bids, budget)?;
+    let prices = bids.prices(alloc)?;
+    search_woven(
+        alloc,
+        space,
+        &barest,
+        plain.voice,
+        &prices,
+        known,
+        budget,
+        purse,
+    )
+}
+
 /// What a try found; where it was spent, what the floors that keep most find.
 fn search_after(
     alloc: Global,
@@ -352,7 +408,8 @@ fn search_after(
 }
 
 /// The first leaf of least value, by floors that keep least, and then by those that keep most.
-/// Where no web can be made the space's own floors have the whole budget at once.
+/// Where the least web can't be made no larger one can, and floors that keep less still, or the
+/// space's own, have the whole budget at once.
 fn search_by_prices(
     alloc: Global,
     space: &SpeciesSpace<'_>,
@@ -386,7 +443,7 @@ fn search_by_prices(
         Some(tried) => {
             search_after(alloc, space, tried, &plain, &mut bids, known, budget, purse)
         }
-        None => search_unpriced(alloc, space, known, budget),
+        None => search_barest(alloc, space, &plain, &mut bids, known, budget, purse),
     }
 }
 
