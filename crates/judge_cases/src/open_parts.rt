@@ -2,6 +2,7 @@
 
 mod cadences;
 mod dissonances;
+mod other_turnings;
 mod parallels;
 mod runs;
 mod shapes;

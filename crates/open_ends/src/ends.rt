@@ -13,6 +13,7 @@ use crate::cadences::OpenCadences;
 use crate::keeps::Keeps;
 use crate::ligatures::OpenLigature;
 use crate::notes::OpenTurns;
+use crate::other_turns::OtherTurns;
 use crate::parallels::OpenParallels;
 use crate::part::OpenPart;
 use crate::passing::OpenPassing;
@@ -27,7 +28,13 @@ pub type OpenRules = Both<
     OpenPassing,
     Both<
         OpenLigature,
-        Both<OpenShapes, Both<OpenParallels, Both<OpenSuspensions, Both<OpenCadences, OpenTurns>>>>,
+        Both<
+            OpenShapes,
+            Both<
+                OpenParallels,
+                Both<OpenSuspensions, Both<OpenCadences, Both<OpenTurns, OtherTurns>>>,
+            >,
+        >,
     >,
 >;
 
