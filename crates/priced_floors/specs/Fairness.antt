@@ -13,7 +13,6 @@ use Rattle.std.proofs.lemmas.List.Sums.{sum_by-cons}
 use Rattle.fux_pitch.specs.declared.pitch.Pitch.{Pitch}
 use Rattle.fux_pitch.specs.Pitch.{alter_of, degree_of, key_of, same_pitch}
 use Rattle.fux_pitch.proofs.PitchLemmas.{pitch_ext}
-use Rattle.melody_rules.proofs.GaugeLemmas.{equal}
 use Rattle.melody_rules.specs.ClimaxKeys.{climax_is}
 use Rattle.melody_rules.specs.GaugeParts.{alter_place, place_in}
 use Rattle.melody_rules.specs.Gauges.{beyond_fourth, climax_notes, climax_repeats, notes_at}
@@ -77,8 +76,8 @@ place-one p q e =
     ∙ alter_at-place (alter_of q) q.is_pitch.flat q.is_pitch.sharp)
 
 same-self : (p : Pitch) → same_pitch p p ≡ true
-same-self p = and_from (degree_of p == degree_of p) (int_eq (alter_of p) (alter_of p)) (grind (arith, nat_tests))
-    (equal (alter_of p))
+same-self p =
+    and_from (p.degree == p.degree) (p.key == p.key) (eq-eqb p.degree p.degree refl) (eq-eqb p.key p.key refl)
 
 -- so a place is struck no more often than its pitch
 struck-same : (p : Pitch) (ps : List Pitch) → struck (place_in p) ps ≤ count_by (same_pitch p) ps
