@@ -35,7 +35,6 @@ fn goes_far(degrees: u16) -> bool
 /// Whether a line may move from one pitch to another. Most moves that it may not make go too far,
 /// which degrees alone tell.
 #[inline]
-#[tactic(auto, using(crate::proofs::MoveLemmas::far_is_unmelodic))]
 fn leads_to(p: Pitch, q: Pitch) -> bool
     ensures { result ≡ rows.is_melodic (interval_between p q) }
 {
