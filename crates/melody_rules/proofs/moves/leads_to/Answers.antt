@@ -1,5 +1,5 @@
 use Rattle.std.specs.Prelude.{◌≡◌, ◌==◌, ◌||◌, nat_lt}
-use Rattle.std.proofs.Common.{ap, rules, sym}
+use Rattle.std.proofs.Common.{ap, rules, sym, ◌∙◌}
 use Rattle.fux_pitch.specs.Size.{interval_between}
 use Rattle.rule_law.specs.Terms.{degrees_without_sign}
 use Rattle.melody_rules.proofs.MoveLemmas.{far_is_unmelodic}
