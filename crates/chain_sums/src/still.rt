@@ -6,7 +6,7 @@ ghost use Rattle.std.specs.Bool.{OnTrue};
 ghost use Rattle.chain_sums.specs.Chains.{IsLeast};
 ghost use Rattle.chain_sums.specs.Menus.{IsMenuOf, IsPacked, columns_of};
 ghost use Rattle.chain_sums.specs.Rows.{AllAtMost, IsOneCostAboveRow, IsRow};
-ghost use Rattle.chain_sums.specs.Still as specs;
+ghost use Rattle.fux_grid.specs.Cells as specs;
 ghost use Rattle.chain_sums.specs.Still.{IsStill, all_hold};
 
 use crate::least::sum_of;
