@@ -2,7 +2,6 @@
 
 mod cadences;
 mod dissonances;
-mod other_turnings;
 mod parallels;
 mod runs;
 mod shapes;

@@ -49,7 +49,6 @@ use Rattle.open_ends.proofs.Followed.{both-followed, followed, voices_of_valid}
 use Rattle.open_ends.proofs.KeepsShapes.{shapes-followed}
 use Rattle.open_ends.proofs.LeadLaw.{never_lacks}
 use Rattle.open_ends.proofs.LigatureLaw.{resolved}
-use Rattle.open_ends.proofs.OthersTurn.{others-followed}
 use Rattle.open_ends.proofs.PassingLaw.{left_well, reached_well}
 use Rattle.open_ends.proofs.Settles.{here, settles}
 use Rattle.open_ends.proofs.SomeRuns.{some-none, some_ended, some_follow}
@@ -97,8 +96,8 @@ module _ (ex : Exercise) (keeps : Keeps) (voices : HasVoices ex) where
 
   pub turns-followed : FollowsLawful ex notes.none (turns.open_in ex keeps) (turns.open_after ex keeps)
   turns-followed =
-      followed ex notes.none (turns.is_read ex keeps) (noted_in ex v)
-      (λ i kept before now. noted ex v i kept (cell_in now v)) (λ i kept before now. turns_badly kept (cell_in now v)) refl
+      followed ex notes.none (turns.is_read ex keeps) (noted_in ex)
+      (λ i kept before now. noted ex i kept (cell_in now v)) (λ i kept before now. turns_badly kept (cell_in now v)) refl
       (λ col behind. refl)
       (λ read s lawful i here. never_turns_badly ex voices s lawful
       (and_parts keeps.turns (is_asked ex turns_rule) read).1 i here)
@@ -160,8 +159,7 @@ module _ (ex : Exercise) (keeps : Keeps) (voices : HasVoices ex) where
   rules-followed =
       both-followed ex _ _ _ _ _ _ passing-followed (both-followed ex _ _ _ _ _ _ ligature-followed
       (both-followed ex _ _ _ _ _ _ (shapes-followed ex keeps voices) (both-followed ex _ _ _ _ _ _ parallels-followed
-      (both-followed ex _ _ _ _ _ _ suspensions-followed (both-followed ex _ _ _ _ _ _ cadences-followed
-      (both-followed ex _ _ _ _ _ _ turns-followed (others-followed ex keeps voices)))))))
+      (both-followed ex _ _ _ _ _ _ suspensions-followed (both-followed ex _ _ _ _ _ _ cadences-followed turns-followed)))))
 
   pub ends-followed : FollowsLawful ex nothing (ends_in ex keeps)
       (λ i kept before now. both_after rules_after runs.open_after ex keeps i kept before now)

@@ -6,7 +6,6 @@ pub mod KeepsShapes
 pub mod LateStarts
 pub mod LeadLaw
 pub mod LigatureLaw
-pub mod OthersTurn
 pub mod PassingLaw
 pub mod RunsPaid
 pub mod RunsTold

@@ -1,6 +1,5 @@
--- What is kept of the notes of a voice tells nothing wrong of them (`kept_of_line`). So by it no note
--- of a free voice turns badly in a lawful setting, where S8 is asked (`turns_well`): of the species
--- voice `never_turns_badly`.
+-- What is kept of the notes of the species voice tells nothing wrong of them (`kept_of_line`). So
+-- by it no note of a lawful setting turns badly, where S8 is asked (`never_turns_badly`).
 use Rattle.std.specs.Prelude.{◌≡◌, ℕ, zero, suc, ◌<◌, ◌==◌, ◌&&◌, ◌||◌, Bool, true, false, not, nat_le, nat_lt, List, [], ◌∷◌, Option, Some, None, is_some, length, slice_index_or, if◌then◌else◌, refl}
 use Rattle.std.specs.List.{list_any}
 use Rattle.std.proofs.Common.{ap, sym, ◌∙◌, subst, arith}
@@ -79,7 +78,7 @@ tells-none = record {
   exact = λ t e now. cc;
 }
 
-module _ (ex : Exercise) (v i : ℕ) (c : Pitch) (ps : List Pitch) (kept : OpenTurns) (tells : TellsOf ps kept) where
+module _ (ex : Exercise) (i : ℕ) (c : Pitch) (ps : List Pitch) (kept : OpenTurns) (tells : TellsOf ps kept) where
   back : (now : Cell)
       → holds_of (goes_back (way_between kept.newest c)) (move_from (Some c) now) ≡ turns (last_of ps) (Some c) now
   back now = back-turns kept.newest c now ∙ ap (λ p. turns p (Some c) now) tells.newest
@@ -99,21 +98,21 @@ module _ (ex : Exercise) (v i : ℕ) (c : Pitch) (ps : List Pitch) (kept : OpenT
         at true f = f
         at false f = cc
 
-    tritone : (p : Option Pitch) → with_tritone ex v i kept.way p ≡ Some t → p ≡ Some t
+    tritone : (p : Option Pitch) → with_tritone ex i kept.way p ≡ Some t → p ≡ Some t
     tritone None e = cc
-    tritone (Some p) e = at (has_tritone ex v i kept.way p) e
+    tritone (Some p) e = at (has_tritone ex i kept.way p) e
       where
         at : (b : Bool) → (if b then Some p else None) ≡ Some t → Some p ≡ Some t
         at true f = f
         at false f = cc
 
-    latest : turning_after ex v i kept c ≡ Some t → latest_turning (c ∷ ps) ≡ Some t
+    latest : turning_after ex i kept c ≡ Some t → latest_turning (c ∷ ps) ≡ Some t
     latest e =
         at (turns_back kept (Start c)) refl
-        (near (if turns_back kept (Start c) then with_tritone ex v i kept.way kept.newest else kept.turning) e)
+        (near (if turns_back kept (Start c) then with_tritone ex i kept.way kept.newest else kept.turning) e)
       where
         at : (b : Bool) → turns_back kept (Start c) ≡ b
-            → (if b then with_tritone ex v i kept.way kept.newest else kept.turning) ≡ Some t
+            → (if b then with_tritone ex i kept.way kept.newest else kept.turning) ≡ Some t
             → latest_turning (c ∷ ps) ≡ Some t
         at true f g =
             ap (λ b. if b then last_of ps else latest_turning ps) (tells.turned (Start c) f)
@@ -123,28 +122,29 @@ module _ (ex : Exercise) (v i : ℕ) (c : Pitch) (ps : List Pitch) (kept : OpenT
             ap (λ b. if b then last_of ps else latest_turning ps) (sym (tells.exact t g (Start c)) ∙ f)
             ∙ tells.turning t g
 
-  tells-more : TellsOf (c ∷ ps) (with_note ex v i kept c)
+  tells-more : TellsOf (c ∷ ps) (with_note ex i kept c)
   tells-more = record {
     newest = refl;
-    turned = way_if (is_some (turning_after ex v i kept c) || has_tritone ex v i (way_between kept.newest c) c);
+    turned = way_if (is_some (turning_after ex i kept c) || has_tritone ex i (way_between kept.newest c) c);
     turning = latest;
     exact = λ t e now. ap (λ p. holds_of (goes_back
-        (if is_some p || has_tritone ex v i (way_between kept.newest c) c then way_between kept.newest c else Level))
+        (if is_some p || has_tritone ex i (way_between kept.newest c) c then way_between kept.newest c else Level))
         (move_from (Some c) now)) e ∙ back now;
   }
 
-one_cell : (ex : Exercise) (v i : ℕ) (c : Cell) (cells : List Cell) (kept : OpenTurns) → TellsOf (pitches cells) kept
-    → TellsOf (pitches (c ∷ cells)) (noted ex v i kept c)
-one_cell ex v i Rest cells kept tells = tells
-one_cell ex v i (Hold p) cells kept tells =
+one_cell : (ex : Exercise) (i : ℕ) (c : Cell) (cells : List Cell) (kept : OpenTurns) → TellsOf (pitches cells) kept
+    → TellsOf (pitches (c ∷ cells)) (noted ex i kept c)
+one_cell ex i Rest cells kept tells = tells
+one_cell ex i (Hold p) cells kept tells =
     subst (λ (ps : List Pitch). TellsOf ps kept) (sym (pitches-hold p cells)) tells
-one_cell ex v i (Start c) cells kept tells = tells-more ex v i c (pitches cells) kept tells
+one_cell ex i (Start c) cells kept tells = tells-more ex i c (pitches cells) kept tells
 
-kept_of_line : (ex : Exercise) (v : ℕ) (behind : List (List Cell))
-    → TellsOf (pitches (line v behind)) (noted_in ex v behind)
-kept_of_line ex v [] = tells-none
-kept_of_line ex v (col ∷ behind) =
-    one_cell ex v (length behind) (cell_in col v) (line v behind) (noted_in ex v behind) (kept_of_line ex v behind)
+kept_of_line : (ex : Exercise) (behind : List (List Cell))
+    → TellsOf (pitches (line ex.species_voice behind)) (noted_in ex behind)
+kept_of_line ex [] = tells-none
+kept_of_line ex (col ∷ behind) =
+    one_cell ex (length behind) (cell_in col ex.species_voice) (line ex.species_voice behind) (noted_in ex behind)
+    (kept_of_line ex behind)
 
 last : (a b c : Bool) → (a && (b && c)) ≡ false → a ≡ true → b ≡ true → c ≡ false
 last true true c h e f = h
@@ -193,15 +193,11 @@ module _ (ex : Exercise) (voices : HasVoices ex) (s : Columns) (lawful : IsLawfu
       last (nat_lt 3 ex.voices) (is_free ex 3) (breaks 3) (unbroken 8 refl) there free
   unbroken_by (suc (suc (suc (suc v)))) few there free = absurd (omega (arith, few))
 
-  pub turns_well : (v : ℕ) → v < 4 → nat_lt v ex.voices ≡ true → is_free ex v ≡ true
-      → turns_badly (noted_in ex v (earlier s i)) (cell_in (slice_index_or s i []) v) ≡ false
-  turns_well v few there free =
-      not_badly (pitches (line v (earlier s i))) (noted_in ex v (earlier s i)) (cell_in (slice_index_or s i []) v)
-      (kept_of_line ex v (earlier s i)) (unbroken_by v few there free)
-
-  pub never_turns_badly : turns_badly (noted_in ex ex.species_voice (earlier s i))
-      (cell_in (slice_index_or s i []) ex.species_voice) ≡ false
+  pub never_turns_badly : turns_badly (noted_in ex (earlier s i)) (cell_in (slice_index_or s i []) ex.species_voice)
+      ≡ false
   never_turns_badly =
-      turns_well ex.species_voice (omega (arith, voices.species_there, voices.most_voices))
+      not_badly (pitches (line ex.species_voice (earlier s i))) (noted_in ex (earlier s i))
+      (cell_in (slice_index_or s i []) ex.species_voice) (kept_of_line ex (earlier s i))
+      (unbroken_by ex.species_voice (omega (arith, voices.species_there, voices.most_voices))
       (lt-ltb ex.species_voice ex.voices voices.species_there)
-      (ap not (ne_eqb ex.species_voice ex.cantus_voice voices.differ))
+      (ap not (ne_eqb ex.species_voice ex.cantus_voice voices.differ)))

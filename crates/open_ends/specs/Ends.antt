@@ -14,7 +14,6 @@ use Rattle.open_ends.specs.declared.cadences.OpenCadences.{OpenCadences}
 use Rattle.open_ends.specs.declared.keeps.Keeps.{Keeps}
 use Rattle.open_ends.specs.declared.ligatures.OpenLigature.{OpenLigature}
 use Rattle.open_ends.specs.declared.notes.OpenTurns.{OpenTurns}
-use Rattle.open_ends.specs.declared.other_turns.OtherTurns.{OtherTurns}
 use Rattle.open_ends.specs.declared.parallels.OpenParallels.{OpenParallels}
 use Rattle.open_ends.specs.declared.passing.OpenPassing.{OpenPassing}
 use Rattle.open_ends.specs.declared.runs.OpenRuns.{OpenRuns}
@@ -23,7 +22,6 @@ use Rattle.open_ends.specs.declared.suspensions.OpenSuspensions.{OpenSuspensions
 use Rattle.open_ends.specs.Cadences as cadences
 use Rattle.open_ends.specs.Ligatures as ligatures
 use Rattle.open_ends.specs.Notes as notes
-use Rattle.open_ends.specs.OtherTurns as others
 use Rattle.open_ends.specs.Parallels as parallels
 use Rattle.open_ends.specs.Parts.{Step, Waits, both, both_after, both_in}
 use Rattle.open_ends.specs.Passing as passing
@@ -37,7 +35,7 @@ use Rattle.open_ends.specs.Turns as turns
 abbrev pub OpenRules : Type 0
 OpenRules =
     Both OpenPassing (Both OpenLigature (Both OpenShapes (Both OpenParallels
-    (Both OpenSuspensions (Both OpenCadences (Both OpenTurns OtherTurns))))))
+    (Both OpenSuspensions (Both OpenCadences OpenTurns)))))
 
 -- and tolls
 abbrev pub OpenEnds : Type 0
@@ -47,13 +45,13 @@ OpenEnds = Both OpenRules OpenRuns
 abbrev pub nothing : OpenEnds
 nothing =
     both (both passing.nothing (both ligatures.nothing (both shapes.nothing (both parallels.nothing
-    (both suspensions.nothing (both cadences.nothing (both notes.none others.nothing))))))) runs.nothing
+    (both suspensions.nothing (both cadences.nothing notes.none)))))) runs.nothing
 
 -- what waits behind some columns
 abbrev pub rules_in : Waits OpenRules
 rules_in =
     both_in passing.open_in (both_in ligatures.open_in (both_in shapes.open_in (both_in parallels.open_in
-    (both_in suspensions.open_in (both_in cadences.open_in (both_in turns.open_in others.open_in))))))
+    (both_in suspensions.open_in (both_in cadences.open_in turns.open_in)))))
 
 abbrev pub ends_in : Waits OpenEnds
 ends_in = both_in rules_in runs.open_in
@@ -63,7 +61,7 @@ abbrev pub rules_after : Step OpenRules
 rules_after =
     both_after passing.open_after (both_after ligatures.open_after (both_after shapes.open_after
     (both_after parallels.open_after (both_after suspensions.open_after
-    (both_after cadences.open_after (both_after turns.open_after others.open_after))))))
+    (both_after cadences.open_after turns.open_after)))))
 
 -- the same, with what the tolls that are followed cost there, by weight; none where some part
 -- refuses the column

@@ -1,5 +1,5 @@
--- What is kept of the notes of a voice: the newest one, the way of the move to it, and the latest
--- turning note, each as far as S8 may come to ask for it.
+-- What is kept of the notes of the species voice: the newest one, the way of the move to it, and
+-- the latest turning note, each as far as S8 may come to ask for it.
 use Rattle.std.specs.Prelude.{ℕ, ◌+◌, ◌-◌, ◌==◌, Bool, false, not, ◌&&◌, ◌||◌, nat_le, pos, unsigned_abs, List, [], ◌∷◌, length, Option, Some, None, is_some, if◌then◌else◌}
 use Rattle.std.specs.List.{list_any}
 use Rattle.std.specs.Option.{option_map_or}
@@ -67,25 +67,25 @@ is_near_end ex i = nat_le (columns_in ex - i) 32
 abbrev pub is_in_mode : Exercise → ℕ → Pitch → Bool
 is_in_mode ex i p = is_in_gamut ex.mode 1 1 p && (is_near_end ex i || not (int_eq (alter_of p) (pos 1)))
 
--- it lies within some range of the voice
-abbrev pub is_in_reach : Exercise → ℕ → Pitch → Bool
-is_in_reach ex v p = list_any (λ line. (line.voice == v) && is_between line.low line.high p) ex.ranges
+-- it lies within some range of the species voice
+abbrev pub is_in_reach : Exercise → Pitch → Bool
+is_in_reach ex p = list_any (λ line. (line.voice == ex.species_voice) && is_between line.low line.high p) ex.ranges
 
 -- the voice may come to a note of a key
-abbrev pub may_sound : Exercise → ℕ → ℕ → ℕ → Bool
-may_sound ex v i key = option_map_or (λ p. is_in_mode ex i p && is_in_reach ex v p) (spelled key) false
+abbrev pub may_sound : Exercise → ℕ → ℕ → Bool
+may_sound ex i key = option_map_or (λ p. is_in_mode ex i p && is_in_reach ex p) (spelled key) false
 
 -- if the voice turns back at a note that it comes to, it may come to one six semitones off: above a
 -- note that it fell to, below one that it rose to
-abbrev pub has_tritone : Exercise → ℕ → ℕ → Way → Pitch → Bool
-has_tritone ex v i Falls p = may_sound ex v i (unsigned_abs (key_of p) + 6)
-has_tritone ex v i Level p = false
-has_tritone ex v i Rises p = may_sound ex v i (unsigned_abs (key_of p) - 6)
+abbrev pub has_tritone : Exercise → ℕ → Way → Pitch → Bool
+has_tritone ex i Falls p = may_sound ex i (unsigned_abs (key_of p) + 6)
+has_tritone ex i Level p = false
+has_tritone ex i Rises p = may_sound ex i (unsigned_abs (key_of p) - 6)
 
 -- a turning note that the voice came to, if it may come to a note six semitones off
-abbrev pub with_tritone : Exercise → ℕ → ℕ → Way → Option Pitch → Option Pitch
-with_tritone ex v i way None = None
-with_tritone ex v i way (Some p) = if has_tritone ex v i way p then Some p else None
+abbrev pub with_tritone : Exercise → ℕ → Way → Option Pitch → Option Pitch
+with_tritone ex i way None = None
+with_tritone ex i way (Some p) = if has_tritone ex i way p then Some p else None
 
 -- a turning note, if it lies at most six semitones from a note
 abbrev pub while_near : Option Pitch → Pitch → Option Pitch
@@ -95,27 +95,27 @@ while_near (Some p) c = if nat_le (semitones_between p c) 6 then Some p else Non
 -- what is kept of the latest turning note, once a further note starts in column i. It is let go
 -- where the new note lies more than six semitones from it: unless a note is repeated, the next
 -- turning note lies farther still
-abbrev pub turning_after : Exercise → ℕ → ℕ → OpenTurns → Pitch → Option Pitch
-turning_after ex v i kept c =
-    while_near (if turns_back kept (Start c) then with_tritone ex v i kept.way kept.newest else kept.turning) c
+abbrev pub turning_after : Exercise → ℕ → OpenTurns → Pitch → Option Pitch
+turning_after ex i kept c =
+    while_near (if turns_back kept (Start c) then with_tritone ex i kept.way kept.newest else kept.turning) c
 
 -- what is kept, once a further note starts. The way to it is kept where a turning note is, or where
 -- the new note would be if it became one
-abbrev pub with_note : Exercise → ℕ → ℕ → OpenTurns → Pitch → OpenTurns
-with_note ex v i kept c = record {
+abbrev pub with_note : Exercise → ℕ → OpenTurns → Pitch → OpenTurns
+with_note ex i kept c = record {
   newest = Some c;
-  way = if is_some (turning_after ex v i kept c) || has_tritone ex v i (way_between kept.newest c) c
+  way = if is_some (turning_after ex i kept c) || has_tritone ex i (way_between kept.newest c) c
       then way_between kept.newest c else Level;
-  turning = turning_after ex v i kept c;
+  turning = turning_after ex i kept c;
 }
 
 -- what is kept after one more cell of the voice, that of column i
-abbrev pub noted : Exercise → ℕ → ℕ → OpenTurns → Cell → OpenTurns
-noted ex v i kept Rest = kept
-noted ex v i kept (Hold p) = kept
-noted ex v i kept (Start c) = with_note ex v i kept c
+abbrev pub noted : Exercise → ℕ → OpenTurns → Cell → OpenTurns
+noted ex i kept Rest = kept
+noted ex i kept (Hold p) = kept
+noted ex i kept (Start c) = with_note ex i kept c
 
 -- what is kept of some columns, which go from the newest to the oldest
-abbrev pub noted_in : Exercise → ℕ → List (List Cell) → OpenTurns
-noted_in ex v [] = none
-noted_in ex v (col ∷ behind) = noted ex v (length behind) (noted_in ex v behind) (cell_in col v)
+abbrev pub noted_in : Exercise → List (List Cell) → OpenTurns
+noted_in ex [] = none
+noted_in ex (col ∷ behind) = noted ex (length behind) (noted_in ex behind) (cell_in col ex.species_voice)

@@ -14,10 +14,10 @@ is_read ex keeps = keeps.turns && is_asked ex turns_rule
 
 -- what is kept of some columns, if they are
 abbrev pub open_in : Waits OpenTurns
-open_in ex keeps p = if is_read ex keeps then noted_in ex ex.species_voice (reverse p) else none
+open_in ex keeps p = if is_read ex keeps then noted_in ex (reverse p) else none
 
 -- the step; none where the column breaks S8
 abbrev pub open_after : Step OpenTurns
 open_after ex keeps i kept before now =
     where_read (is_read ex keeps) (turns_badly kept (cell_in now ex.species_voice)) none
-    (noted ex ex.species_voice i kept (cell_in now ex.species_voice))
+    (noted ex i kept (cell_in now ex.species_voice))

@@ -13,7 +13,6 @@ use crate::cadences::OpenCadences;
 use crate::keeps::Keeps;
 use crate::ligatures::OpenLigature;
 use crate::notes::OpenTurns;
-use crate::other_turns::OtherTurns;
 use crate::parallels::OpenParallels;
 use crate::part::OpenPart;
 use crate::passing::OpenPassing;
@@ -28,13 +27,7 @@ pub type OpenRules = Both<
     OpenPassing,
     Both<
         OpenLigature,
-        Both<
-            OpenShapes,
-            Both<
-                OpenParallels,
-                Both<OpenSuspensions, Both<OpenCadences, Both<OpenTurns, OtherTurns>>>,
-            >,
-        >,
+        Both<OpenShapes, Both<OpenParallels, Both<OpenSuspensions, Both<OpenCadences, OpenTurns>>>>,
     >,
 >;
 

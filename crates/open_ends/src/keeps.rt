@@ -59,37 +59,12 @@ impl Pairs {
     }
 }
 
-/// Some of four voices.
-#[derive(Clone, Copy, Debug, PartialEq, Eq)]
-pub struct Voices {
-    pub v0: bool,
-    pub v1: bool,
-    pub v2: bool,
-    pub v3: bool,
-}
-
-impl Voices {
-    /// All four, or none.
-    pub fn all_if(all: bool) -> Voices
-        ensures { result ≡ words.voices_if all }
-    {
-        Voices {
-            v0: all,
-            v1: all,
-            v2: all,
-            v3: all,
-        }
-    }
-}
-
 /// Which of the parts that many prefixes differ in are kept. What isn't kept is taken as unbroken,
 /// or as costing nothing.
 #[derive(Clone, Copy, Debug, PartialEq, Eq)]
 pub struct Keeps {
     /// The latest turning notes of the species voice (S8).
     pub turns: bool,
-    /// Those of which voices beside it.
-    pub others: Voices,
     /// The perfect intervals at the beginning of a bar (S18).
     pub parallels: bool,
     /// Of which pairs of voices is kept how many bars in a row begin with thirds or with sixths
@@ -98,20 +73,19 @@ pub struct Keeps {
 }
 
 impl Keeps {
-    /// Turning notes of the species voice or none, the runs of all pairs or of none, and perfect
-    /// intervals: what a certificate may state.
+    /// Turning notes or not, the runs of all pairs or of none, and perfect intervals: what a
+    /// certificate may state.
     pub fn stated(turns: bool, runs: bool) -> Keeps
         ensures { result ≡ words.keeps_of turns runs }
     {
         Keeps {
             turns,
-            others: Voices::all_if(false),
             parallels: true,
             runs: Pairs::all_if(runs),
         }
     }
 
-    /// All that a certificate may state.
+    /// Everything is kept.
     pub fn all() -> Keeps {
         Keeps::stated(true, true)
     }
@@ -125,13 +99,12 @@ impl Keeps {
     pub fn barest() -> Keeps {
         Keeps {
             turns: false,
-            others: Voices::all_if(false),
             parallels: false,
             runs: Pairs::all_if(false),
         }
     }
 
-    /// Of the dear parts the turning notes of the species voice alone.
+    /// Of the dear parts turning notes alone.
     pub fn turns_alone() -> Keeps {
         Keeps::stated(true, false)
     }

@@ -1,4 +1,4 @@
-//! What is kept of the notes of a voice.
+//! What is kept of the notes of the species voice.
 
 ghost use Rattle.std.specs.Prelude.{◌≡◌, Some};
 ghost use Rattle.open_ends.specs.Notes as words;
@@ -124,45 +124,45 @@ fn is_in_mode(ex: &Exercise, i: usize, pitch: Pitch) -> bool
     in_gamut(ex.mode, 1, 1, pitch) && (is_near_end(ex, i) || pitch.alter() != 1)
 }
 
-/// Whether a pitch lies within some range of the voice.
-fn is_in_reach(ex: &Exercise, v: u8, pitch: Pitch) -> bool
-    ensures { result ≡ words.is_in_reach ex.now v pitch }
+/// Whether a pitch lies within some range of the species voice.
+fn is_in_reach(ex: &Exercise, pitch: Pitch) -> bool
+    ensures { result ≡ words.is_in_reach ex.now pitch }
 {
     let key = semitone(pitch);
     ex.ranges.as_slice().iter().any(|line| {
-        line.voice == v && semitone(line.low) <= key && key <= semitone(line.high)
+        line.voice == ex.species_voice && semitone(line.low) <= key && key <= semitone(line.high)
     })
 }
 
 /// Whether the voice may come to a note of a key.
-fn may_sound(ex: &Exercise, v: u8, i: usize, key: u8) -> bool
-    ensures { result ≡ words.may_sound ex.now v i key }
+fn may_sound(ex: &Exercise, i: usize, key: u8) -> bool
+    ensures { result ≡ words.may_sound ex.now i key }
 {
     match spell(key) {
-        Some(pitch) => is_in_mode(ex, i, pitch) && is_in_reach(ex, v, pitch),
+        Some(pitch) => is_in_mode(ex, i, pitch) && is_in_reach(ex, pitch),
         None => false,
     }
 }
 
 /// Whether the voice, if it turns back at a note that it comes to, may come to one six semitones
 /// off.
-fn has_tritone(ex: &Exercise, v: u8, i: usize, way: Way, pitch: Pitch) -> bool
-    ensures { result ≡ words.has_tritone ex.now v i way pitch }
+fn has_tritone(ex: &Exercise, i: usize, way: Way, pitch: Pitch) -> bool
+    ensures { result ≡ words.has_tritone ex.now i way pitch }
 {
     let key = semitone(pitch);
     match way {
-        Way::Falls => may_sound(ex, v, i, key + 6),
+        Way::Falls => may_sound(ex, i, key + 6),
         Way::Level => false,
-        Way::Rises => may_sound(ex, v, i, key - 6),
+        Way::Rises => may_sound(ex, i, key - 6),
     }
 }
 
 /// A turning note that the voice came to, if it may come to a note six semitones off.
-fn with_tritone(ex: &Exercise, v: u8, i: usize, way: Way, turning: Option<Pitch>) -> Option<Pitch>
-    ensures { result ≡ words.with_tritone ex.now v i way turning }
+fn with_tritone(ex: &Exercise, i: usize, way: Way, turning: Option<Pitch>) -> Option<Pitch>
+    ensures { result ≡ words.with_tritone ex.now i way turning }
 {
     match turning {
-        Some(pitch) if has_tritone(ex, v, i, way, pitch) => Some(pitch),
+        Some(pitch) if has_tritone(ex, i, way, pitch) => Some(pitch),
         _ => None,
     }
 }
@@ -178,11 +178,11 @@ fn while_near(turning: Option<Pitch>, pitch: Pitch) -> Option<Pitch>
 }
 
 /// What is kept of the latest turning note, once a further note starts in column `i`.
-fn turning_after(ex: &Exercise, v: u8, i: usize, kept: &OpenTurns, pitch: Pitch) -> Option<Pitch>
-    ensures { result ≡ words.turning_after ex.now v i kept.now pitch }
+fn turning_after(ex: &Exercise, i: usize, kept: &OpenTurns, pitch: Pitch) -> Option<Pitch>
+    ensures { result ≡ words.turning_after ex.now i kept.now pitch }
 {
     let turning = if turns_back(kept, Cell::Start(pitch)) {
-        with_tritone(ex, v, i, kept.way, kept.newest)
+        with_tritone(ex, i, kept.way, kept.newest)
     } else {
         kept.turning
     };
@@ -190,12 +190,12 @@ fn turning_after(ex: &Exercise, v: u8, i: usize, kept: &OpenTurns, pitch: Pitch)
 }
 
 /// What is kept, once a further note starts.
-fn with_note(ex: &Exercise, v: u8, i: usize, kept: &OpenTurns, pitch: Pitch) -> OpenTurns
-    ensures { result ≡ words.with_note ex.now v i kept.now pitch }
+fn with_note(ex: &Exercise, i: usize, kept: &OpenTurns, pitch: Pitch) -> OpenTurns
+    ensures { result ≡ words.with_note ex.now i kept.now pitch }
 {
-    let turning = turning_after(ex, v, i, kept, pitch);
+    let turning = turning_after(ex, i, kept, pitch);
     let way = way_between(kept.newest, pitch);
-    let matters = turning.is_some() || has_tritone(ex, v, i, way, pitch);
+    let matters = turning.is_some() || has_tritone(ex, i, way, pitch);
     OpenTurns {
         newest: Some(pitch),
         way: if matters { way } else { Way::Level },
@@ -204,11 +204,11 @@ fn with_note(ex: &Exercise, v: u8, i: usize, kept: &OpenTurns, pitch: Pitch) -> 
 }
 
 /// What is kept after one more cell of the voice, that of column `i`.
-pub(crate) fn noted(ex: &Exercise, v: u8, i: usize, kept: &OpenTurns, cell: Cell) -> OpenTurns
-    ensures { result ≡ words.noted ex.now v i kept.now cell }
+pub(crate) fn noted(ex: &Exercise, i: usize, kept: &OpenTurns, cell: Cell) -> OpenTurns
+    ensures { result ≡ words.noted ex.now i kept.now cell }
 {
     match cell {
-        Cell::Start(pitch) => with_note(ex, v, i, kept, pitch),
+        Cell::Start(pitch) => with_note(ex, i, kept, pitch),
         Cell::Hold(_) | Cell::Rest => *kept,
     }
 }

@@ -57,7 +57,7 @@ impl OpenPart for OpenTurns {
         if turns_badly(kept, cell) {
             return None;
         }
-        Some(noted(ex, ex.species_voice, i, kept, cell))
+        Some(noted(ex, i, kept, cell))
     }
 
     fn lawful_steps_go_on() {}

@@ -1,7 +1,7 @@
 -- What is kept has a number of its own (`same_keeps`), so lists that keep the same have the same web
 -- (`web_moved`), and where there is one for each number, each list has its own (`has_web`), and none
 -- has too large a one (`none_large`).
-use Rattle.std.proofs.Common.{◌≡◌, ⊎_elim, ℕ, ◌+◌, ◌*◌, ◌<◌, Bool, true, false, List, [], ◌∷◌, ◌++◌, Option, Some, None, arith, get_or, length, slice_get, slice_index_or, refl, ap, subst, sym, ◌∙◌}
+use Rattle.std.proofs.Common.{◌≡◌, ⊎_elim, ℕ, ◌+◌, ◌*◌, ◌<◌, Bool, true, false, List, [], ◌∷◌, ◌++◌, Option, Some, None, arith, get_or, length, slice_get, slice_index_or, refl, ap, ap₂, subst, sym, ◌∙◌}
 use Rattle.std.specs.Prelude.{Err, Result, map, option_map}
 use Rattle.std.proofs.lemmas.Bool.{cases_lt}
 use Rattle.std.proofs.lemmas.List.{get_or_append_left, get_or_default, get_or_past, get_or_push}
@@ -10,9 +10,8 @@ use Rattle.floor_tables.specs.Tables.{Task}
 use Rattle.fux_grid.specs.Exercises.{columns_in}
 use Rattle.open_ends.specs.declared.keeps.Keeps.{Keeps}
 use Rattle.open_ends.specs.declared.keeps.Pairs.{Pairs}
-use Rattle.open_ends.specs.declared.keeps.Voices.{Voices}
 use Rattle.price_check.specs.declared.priced_list.PricedList.{PricedList}
-use Rattle.price_check.specs.Woven.{AreOf, AreWebs, FitsFor, HasLargeWeb, HasWeb, IsLargeList, IsLargeWeb, IsWebFor, IsWebOf, keeps_number, list_priced, pairs_number, voices_before, web_under, with_bit}
+use Rattle.price_check.specs.Woven.{AreOf, AreWebs, FitsFor, HasLargeWeb, HasWeb, IsLargeList, IsLargeWeb, IsWebFor, IsWebOf, keeps_number, list_priced, pairs_number, web_under, with_bit}
 use Rattle.price_law.specs.PriceLists.{PriceList}
 use Rattle.priced_floors.specs.declared.kept.Kept.{Kept}
 use Rattle.priced_floors.specs.Kept.{kept_of, step_of}
@@ -60,39 +59,15 @@ pairs_same a b e =
     ∙ ap (λ v. six b.v01 b.v02 b.v03 b.v12 v a.v23) fifth.0
     ∙ ap (λ v. six b.v01 b.v02 b.v03 b.v12 b.v13 v) sixth.0
 
-abbrev four : Bool → Bool → Bool → Bool → Voices
-four a b c d = record { v0 = a; v1 = b; v2 = c; v3 = d }
-
-voices_same : (a b : Voices) (m n : ℕ) → voices_before a m ≡ voices_before b n → (a ≡ b) × (m ≡ n)
-voices_same a b m n e =
-    let first = bit_same a.v0 b.v0 (with_bit a.v1 (with_bit a.v2 (with_bit a.v3 m)))
-    (with_bit b.v1 (with_bit b.v2 (with_bit b.v3 n))) e in
-    let second = bit_same a.v1 b.v1 (with_bit a.v2 (with_bit a.v3 m)) (with_bit b.v2 (with_bit b.v3 n)) first.1 in
-    let third = bit_same a.v2 b.v2 (with_bit a.v3 m) (with_bit b.v3 n) second.1 in
-    let fourth = bit_same a.v3 b.v3 m n third.1 in (
-      ap (λ v. four v a.v1 a.v2 a.v3) first.0
-          ∙ ap (λ v. four b.v0 v a.v2 a.v3) second.0
-          ∙ ap (λ v. four b.v0 b.v1 v a.v3) third.0
-          ∙ ap (λ v. four b.v0 b.v1 b.v2 v) fourth.0,
-      fourth.1,
-    )
-
-abbrev from_others : Keeps → ℕ
-from_others keeps = voices_before keeps.others (pairs_number keeps.runs)
-
-abbrev keeping : Bool → Voices → Bool → Pairs → Keeps
-keeping turns others parallels runs =
-    record { turns = turns; others = others; parallels = parallels; runs = runs }
-
 pub same_keeps : (a b : Keeps) → keeps_number a ≡ keeps_number b → a ≡ b
 same_keeps a b e =
-    let first = bit_same a.turns b.turns (with_bit a.parallels (from_others a)) (with_bit b.parallels (from_others b)) e in
-    let second = bit_same a.parallels b.parallels (from_others a) (from_others b) first.1 in
-    let rest = voices_same a.others b.others (pairs_number a.runs) (pairs_number b.runs) second.1 in
-    ap (λ turns. keeping turns a.others a.parallels a.runs) first.0
-    ∙ ap (λ parallels. keeping b.turns a.others parallels a.runs) second.0
-    ∙ ap (λ others. keeping b.turns others b.parallels a.runs) rest.0
-    ∙ ap (keeping b.turns b.others b.parallels) (pairs_same a.runs b.runs rest.1)
+    let first = bit_same a.turns b.turns (with_bit a.parallels (pairs_number a.runs))
+    (with_bit b.parallels (pairs_number b.runs)) e in
+    let second = bit_same a.parallels b.parallels (pairs_number a.runs) (pairs_number b.runs) first.1 in
+    let of : Bool → Bool → Pairs → Keeps =
+    λ turns parallels runs. record { turns = turns; parallels = parallels; runs = runs } in
+    ap₂ (λ turns parallels. of turns parallels a.runs) first.0 second.0
+    ∙ ap (of b.turns b.parallels) (pairs_same a.runs b.runs second.1)
 
 abbrev IsWebIn : Task → Keeps → Web Kept → Type 0
 IsWebIn task keeps web =
@@ -106,7 +81,7 @@ web_moved one other web task number is =
     subst (λ (k : Keeps). IsWebIn other.space.space.now k web) (same_keeps one.space.keeps other.space.keeps number)
     (subst (λ (t : Task). IsWebIn t one.space.keeps web) task is)
 
--- it is one of 4096
+-- it is one of 256
 bit_few : (bit : Bool) (number most : ℕ) → number < most → with_bit bit number < 2 * most
 bit_few true number most h = omega (arith, h)
 bit_few false number most h = omega (arith, h)
@@ -117,17 +92,10 @@ pairs_few pairs =
     (bit_few pairs.v03 (from_v12 pairs) 8 (bit_few pairs.v12 (from_v13 pairs) 4
     (bit_few pairs.v13 (from_v23 pairs) 2 (bit_few pairs.v23 0 1 (omega arith))))))
 
-voices_few : (voices : Voices) (number : ℕ) → number < 64 → voices_before voices number < 1024
-voices_few voices number h =
-    bit_few voices.v0 (with_bit voices.v1 (with_bit voices.v2 (with_bit voices.v3 number))) 512
-    (bit_few voices.v1 (with_bit voices.v2 (with_bit voices.v3 number)) 256
-    (bit_few voices.v2 (with_bit voices.v3 number) 128 (bit_few voices.v3 number 64 h)))
-
-keeps_few : (keeps : Keeps) → keeps_number keeps < 4096
+keeps_few : (keeps : Keeps) → keeps_number keeps < 256
 keeps_few keeps =
-    bit_few keeps.turns (with_bit keeps.parallels (from_others keeps)) 2048
-    (bit_few keeps.parallels (from_others keeps) 1024
-    (voices_few keeps.others (pairs_number keeps.runs) (pairs_few keeps.runs)))
+    bit_few keeps.turns (with_bit keeps.parallels (pairs_number keeps.runs)) 128
+    (bit_few keeps.parallels (pairs_number keeps.runs) 64 (pairs_few keeps.runs))
 
 abbrev IsLargeIn : Task → Keeps → Type 0
 IsLargeIn task keeps = IsLargeWeb task.exercise task.sheet keeps
@@ -157,7 +125,7 @@ large_list task lists k it of there large = record {
 }
 
 -- none is where none is under any number
-pub none_large : (task : Task) (lists : List PricedList) → AreOf task lists → ((n : ℕ) → n < 4096 → FitsFor lists n)
+pub none_large : (task : Task) (lists : List PricedList) → AreOf task lists → ((n : ℕ) → n < 256 → FitsFor lists n)
     → HasLargeWeb task.exercise task.sheet (map list_priced lists) → ⊥
 none_large task lists of fits h =
     at (slice_get lists h.place) refl (sym (slice_get-map list_priced lists h.place) ∙ h.there)
@@ -180,7 +148,7 @@ read_there lists k own it is there = is ∙ get_or_from_slice_get lists k it own
 
 -- where the webs under all numbers are made, each list has its own
 pub has_web : (lists : List PricedList) (webs : List (Option (Web Kept)))
-    → ((n : ℕ) → n < 4096 → IsWebFor lists n (slice_index_or webs n None)) → AreWebs lists webs
+    → ((n : ℕ) → n < 256 → IsWebFor lists n (slice_index_or webs n None)) → AreWebs lists webs
 has_web lists webs all j it there =
     at (web_under webs it.space.keeps) refl (all n (keeps_few it.space.keeps))
   where

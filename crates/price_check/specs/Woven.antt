@@ -5,7 +5,6 @@ use Rattle.fux_grid.specs.declared.exercise.Exercise.{Exercise}
 use Rattle.fux_grid.specs.Exercises.{columns_in}
 use Rattle.open_ends.specs.declared.keeps.Keeps.{Keeps}
 use Rattle.open_ends.specs.declared.keeps.Pairs.{Pairs}
-use Rattle.open_ends.specs.declared.keeps.Voices.{Voices}
 use Rattle.penalty_sheet.specs.declared.sheet.Sheet.{Sheet}
 use Rattle.floor_tables.specs.Tables.{Task}
 use Rattle.price_check.specs.declared.priced_list.PricedList.{PricedList}
@@ -38,15 +37,9 @@ pairs_number pairs =
     with_bit pairs.v01 (with_bit pairs.v02 (with_bit pairs.v03 (with_bit pairs.v12 (with_bit pairs.v13
     (with_bit pairs.v23 0)))))
 
--- that of some voices, among the 16 choices of them, with a number behind it
-abbrev pub voices_before : Voices → ℕ → ℕ
-voices_before voices number =
-    with_bit voices.v0 (with_bit voices.v1 (with_bit voices.v2 (with_bit voices.v3 number)))
-
--- the number of what is kept, among the 4096 that may be
+-- the number of what is kept, among the 256 that may be
 abbrev pub keeps_number : Keeps → ℕ
-keeps_number keeps =
-    with_bit keeps.turns (with_bit keeps.parallels (voices_before keeps.others (pairs_number keeps.runs)))
+keeps_number keeps = with_bit keeps.turns (with_bit keeps.parallels (pairs_number keeps.runs))
 
 -- a web is that of what is kept of settings
 abbrev pub IsWebOf : PricedSpace → Web Kept → Type 0

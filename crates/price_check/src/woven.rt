@@ -13,7 +13,7 @@ ghost use Rattle.priced_paths.specs.declared.states.WebFault.TheVariants.{TooLar
 use crate::floors::ListFloor;
 use crate::priced_list::PricedList;
 use fux_pitch::{List as Numbers, Memory};
-use open_ends::{Keeps, Pairs, Voices};
+use open_ends::{Keeps, Pairs};
 use path_sums::PathSums;
 use price_lists::OwnList;
 use priced_floors::{Kept, PricedSpace};
@@ -62,7 +62,7 @@ pub fn priced_lists<'a>(
 
 /// A number with a bit more.
 fn with_bit(bit: bool, number: usize) -> usize
-    requires { number < 2048 }
+    requires { number < 128 }
     ensures value { result ≡ words.with_bit bit number }
     ensures few { result ≤ 2 * number + 1 }
 {
@@ -80,23 +80,15 @@ fn pairs_number(pairs: Pairs) -> usize
     with_bit(pairs.v01, with_bit(pairs.v02, third_on))
 }
 
-/// That of some voices, with a number behind it.
-fn voices_before(voices: Voices, number: usize) -> usize
-    requires { number < 64 }
-    ensures value { result ≡ words.voices_before voices number }
-    ensures few { result < 1024 }
-{
-    let third_on = with_bit(voices.v2, with_bit(voices.v3, number));
-    with_bit(voices.v0, with_bit(voices.v1, third_on))
-}
-
 /// The number of what is kept, among all that may be.
 fn keeps_number(keeps: Keeps) -> usize
     ensures value { result ≡ words.keeps_number keeps }
-    ensures few { result < 4096 }
+    ensures few { result < 256 }
 {
-    let from_voices = voices_before(keeps.others, pairs_number(keeps.runs));
-    with_bit(keeps.turns, with_bit(keeps.parallels, from_voices))
+    with_bit(
+        keeps.turns,
+        with_bit(keeps.parallels, pairs_number(keeps.runs)),
+    )
 }
 
 /// The first list that keeps what has this number.
@@ -147,10 +139,10 @@ pub fn webs_of(alloc: Global, lists: &[PricedList<'_>]) -> Result<Vec<Option<Web
     ensures large { result ≡ Err too_large → (task : Task) → AreOf task lists.now
         → HasLargeWeb task.exercise task.sheet (map list_priced lists.now) }
 {
-    let Ok(mut webs) = Vec::with_capacity(alloc, 4096) else {
+    let Ok(mut webs) = Vec::with_capacity(alloc, 256) else {
         return Err(WebFault::Memory);
     };
-    for number in 0..4096 {
+    for number in 0..256 {
         let web = web_with(alloc, lists, number)?;
         webs.push_reserved(web);
     }

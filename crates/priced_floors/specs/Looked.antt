@@ -14,8 +14,6 @@ use Rattle.fux_pitch.specs.Pitch.{degree_of, same_pitch}
 use Rattle.open_ends.specs.declared.both.Both.{Both}
 use Rattle.open_ends.specs.declared.cadences.OpenCadences.{OpenCadences}
 use Rattle.open_ends.specs.declared.ligatures.OpenLigature.{OpenLigature}
-use Rattle.open_ends.specs.declared.notes.OpenTurns.{OpenTurns}
-use Rattle.open_ends.specs.declared.other_turns.OtherTurns.{OtherTurns}
 use Rattle.open_ends.specs.declared.parallels.OpenParallels.{OpenParallels}
 use Rattle.open_ends.specs.declared.passing.OpenPassing.{OpenPassing}
 use Rattle.open_ends.specs.declared.runs.OpenRuns.{OpenRuns}
@@ -103,14 +101,6 @@ cadences_same =
     by_part (λ (l : List Bool). record { leads = l }) (λ (x : OpenCadences). x.leads) (λ x. refl)
     (λ p q. slice_eq-Decides booleans_Decides p q (pointwise beq p q) refl)
 
-abbrev others_test : OtherTurns → OtherTurns → Bool
-others_test a b = pointwise are_same a.voices b.voices
-
-others_same : (a b : OtherTurns) → Decides (others_test a b) (a ≡ b)
-others_same =
-    by_part (λ (l : List OpenTurns). record { voices = l }) (λ (x : OtherTurns). x.voices) (λ x. refl)
-    (λ p q. slice_eq-Decides tells_same p q (pointwise are_same p q) refl)
-
 abbrev run_test : Run → Run → Bool
 run_test a b = (a.thirds == b.thirds) && (a.sixths == b.sixths)
 
@@ -126,13 +116,12 @@ runs_same =
 abbrev ends_test : OpenEnds → OpenEnds → Bool
 ends_test =
     both_pass (both_pass passing_test (both_pass ligature_test (both_pass shapes_test (both_pass parallels_test
-    (both_pass suspensions_test (both_pass cadences_test (both_pass are_same others_test))))))) runs_test
+    (both_pass suspensions_test (both_pass cadences_test are_same)))))) runs_test
 
 ends_same : (a b : OpenEnds) → Decides (ends_test a b) (a ≡ b)
 ends_same =
     both_same (both_same passing_same (both_same ligature_same (both_same shapes_same
-    (both_same parallels_same (both_same suspensions_same (both_same cadences_same
-    (both_same tells_same others_same))))))) runs_same
+    (both_same parallels_same (both_same suspensions_same (both_same cadences_same tells_same)))))) runs_same
 
 abbrev pub kept_test : Kept → Kept → Bool
 kept_test a b = option_eq ◌==◌ a.column b.column && ends_test a.ends b.ends
@@ -156,7 +145,7 @@ degree_or (Some pitch) = degree_of pitch
 abbrev pub pitches_number : OpenEnds → ℕ
 pitches_number ends =
     degree_or ends.first.first.origin + 2 ^ 8 * degree_or ends.first.second.first.pitch
-    + 2 ^ 16 * degree_or ends.first.second.second.second.second.second.second.first.turning
+    + 2 ^ 16 * degree_or ends.first.second.second.second.second.second.second.turning
     + 2 ^ 24 * degree_or (slice_index_or ends.first.second.second.second.first.pitches 0 None)
     + 2 ^ 32 * degree_or (slice_index_or ends.first.second.second.second.first.pitches 1 None)
     + 2 ^ 40 * degree_or (slice_index_or ends.first.second.second.second.first.pitches 2 None)

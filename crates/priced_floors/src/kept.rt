@@ -34,7 +34,7 @@ fn pitches_number(ends: &OpenEnds) -> u64
     let [first, second, third, _] = rules.second.second.first.pitches;
     degree_or(ends.first.first.origin)
         + 256 * degree_or(rules.first.pitch)
-        + 65_536 * degree_or(rules.second.second.second.second.second.first.turning)
+        + 65_536 * degree_or(rules.second.second.second.second.second.turning)
         + 16_777_216 * degree_or(first)
         + 4_294_967_296 * degree_or(second)
         + 1_099_511_627_776 * degree_or(third)

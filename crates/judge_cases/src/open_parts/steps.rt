@@ -4,26 +4,17 @@ ghost use Rattle.std.specs.Prelude.{◌≡◌, ◌≤◌, ◌<◌, length};
 
 use crate::agree::agree;
 use crate::open_parts::told::Told;
-use crate::open_parts::{
-    cadences, dissonances, other_turnings, parallels, runs, shapes, suspensions, turnings,
-};
+use crate::open_parts::{cadences, dissonances, parallels, runs, shapes, suspensions, turnings};
 use fux_grid::{Exercise, Score, mixed_as, species_of};
 use open_ends::{
     Both, Keeps, OpenCadences, OpenLigature, OpenParallels, OpenPassing, OpenRuns, OpenShapes,
-    OpenSuspensions, OpenTurns, OtherTurns, Voices,
+    OpenSuspensions, OpenTurns,
 };
 use short_scores::case_of;
 use std::alloc::Global;
 use std::fmt::Write;
 use std::process::Abort;
 use std::test::Fail;
-
-/// All that may be kept.
-fn all_kept() -> Keeps {
-    let mut keeps = Keeps::all();
-    keeps.others = Voices::all_if(true);
-    keeps
-}
 
 /// The columns behind which something else is kept than before, and those that pay, up to one that
 /// is refused.
@@ -32,7 +23,7 @@ fn changes<P: Told>(alloc: Global, ex: &Exercise, score: &Score) -> Result<Strin
     let mut kept = P::none();
     for i in 0..score.len().min(2040) {
         let now = score.column(i).as_slice();
-        let Some(next) = P::after(ex, all_kept(), i, &kept, score.before(i), now) else {
+        let Some(next) = P::after(ex, Keeps::all(), i, &kept, score.before(i), now) else {
             write!(text, "\n{i} refused")?;
             return Ok(text);
         };
@@ -107,7 +98,6 @@ fn cases_stand(rt: HostRuntime) -> Result<(), Fail> {
     stand::<OpenSuspensions>(&rt, alloc, suspensions::CASES)?;
     stand::<OpenCadences>(&rt, alloc, cadences::CASES)?;
     stand::<OpenTurns>(&rt, alloc, turnings::CASES)?;
-    stand::<OtherTurns>(&rt, alloc, other_turnings::CASES)?;
     stand::<OpenRuns>(&rt, alloc, runs::CASES)?;
 
     // S15 is of one species alone.
@@ -117,6 +107,5 @@ fn cases_stand(rt: HostRuntime) -> Result<(), Fail> {
     stand_mixed::<OpenParallels>(&rt, alloc, parallels::CASES, Mixed::Followed)?;
     stand_mixed::<OpenSuspensions>(&rt, alloc, suspensions::CASES, Mixed::Followed)?;
     stand_mixed::<OpenCadences>(&rt, alloc, cadences::CASES, Mixed::Followed)?;
-    stand_mixed::<OtherTurns>(&rt, alloc, other_turnings::CASES, Mixed::Followed)?;
     stand_mixed::<OpenTurns>(&rt, alloc, turnings::CASES, Mixed::Followed)
 }

@@ -4,7 +4,7 @@ use fux_grid::Cell;
 use fux_pitch::Pitch;
 use open_ends::{
     Both, OpenCadences, OpenLigature, OpenParallels, OpenPart, OpenPassing, OpenRuns, OpenShapes,
-    OpenSuspensions, OpenTurns, OtherTurns, Way, runs_ended,
+    OpenSuspensions, OpenTurns, Way, runs_ended,
 };
 use rule_law::voice_pairs;
 use std::fmt::Write;
@@ -93,18 +93,6 @@ impl Told for OpenTurns {
             Way::Rises => write!(text, " rises")?,
         }
         add_pitch(text, self.turning)
-    }
-}
-
-impl Told for OtherTurns {
-    fn tell(&self, text: &mut String) -> Result<(), Fail> {
-        for (v, turns) in self.voices.iter().enumerate() {
-            if turns.newest.is_some() {
-                write!(text, " {v}")?;
-                turns.tell(text)?;
-            }
-        }
-        Ok(())
     }
 }
 

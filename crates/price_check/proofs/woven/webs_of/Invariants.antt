@@ -8,5 +8,5 @@ invariant-loop-number l = record {
   webs : (n : ℕ) → n < l.number → IsWebFor l.lists n (slice_index_or l.webs.items n None);
   fits : (n : ℕ) → n < l.number → FitsFor l.lists n;
   count : length l.webs.items ≡ l.number;
-  room : 4096 ≤ vec_capacity l.webs;
+  room : 256 ≤ vec_capacity l.webs;
 }
