@@ -378,12 +378,6 @@ impl<'a, T: Tails> ClaimTree for TailedCase<'a, T> {
         is_true(&self.case, &known.judged, known.tail, claim)
     }
 
-    fn is_true_behind(&self, known: &PrefixKnown, number: usize, claim: Claim) -> bool {
-        judge_with(
-            &self.case, self.tails, known, number, claim, None, &mut None,
-        )
-    }
-
     fn judge_behind(
         &self,
         known: &mut PrefixKnown,
@@ -396,10 +390,6 @@ impl<'a, T: Tails> ClaimTree for TailedCase<'a, T> {
 
     fn own_claim(&self, known: &PrefixKnown) -> Claim {
         first_claim(&self.case, &known.judged, known.tail)
-    }
-
-    fn own_claim_behind(&self, known: &PrefixKnown, number: usize) -> Claim {
-        tell_with(&self.case, self.tails, known, number, None, &mut None)
     }
 
     fn tell_behind(

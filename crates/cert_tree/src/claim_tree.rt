@@ -71,18 +71,8 @@ pub trait ClaimTree {
             p claim };
 
     /// Whether a claim is true of the node behind an open one to which the step of a number leads.
-    /// A tree may tell it without all that would have to be known of that node.
-    fn is_true_behind(&self, known: &Self::Known, number: usize, claim: Self::Claim) -> bool
-        requires { IsOfStep (tree self.now) (is_of self.now) (ways self.now) number known.now }
-        ensures { IsBehind (is_of self.now) (ways self.now) known.now number
-            (λ p. IsTrue result ↔ (tree self.now).IsTrueOf p claim) }
-    {
-        let next = self.behind(known, number);
-        self.is_true(&next, claim)
-    }
-
-    /// As `is_true_behind`. What is known of that node is kept, where it is found on the way. More
-    /// may be known of the open node then.
+    /// A tree may tell it without all that would have to be known of that node; what is known of it
+    /// is kept, where it is found on the way. More may be known of the open node then.
     fn judge_behind(
         &self,
         known: &mut Self::Known,
@@ -98,8 +88,9 @@ pub trait ClaimTree {
             known.old number (is_of self.now next)) }
         ensures kept { (p : Node) → is_of self.now known.old p → is_of self.now known.new p }
     {
-        let _ = found;
-        self.is_true_behind(known, number, claim)
+        let next = self.behind(known, number);
+        *found = Some(next);
+        self.is_true(&next, claim)
     }
 
     /// The claim that is written of a node.
@@ -108,18 +99,7 @@ pub trait ClaimTree {
         ensures { (p : Node) → is_of self.now known.now p → result ≡ own self.now p };
 
     /// The claim that is written of the node behind an open one to which the step of a number
-    /// leads, as `is_true_behind`.
-    fn own_claim_behind(&self, known: &Self::Known, number: usize) -> Self::Claim
-        requires { IsOfStep (tree self.now) (is_of self.now) (ways self.now) number known.now }
-        ensures { IsBehind (is_of self.now) (ways self.now) known.now number (λ p. result
-            ≡ own self.now p) }
-    {
-        let next = self.behind(known, number);
-        self.own_claim(&next)
-    }
-
-    /// As `own_claim_behind`. What is known of that node is kept, where it is found on the way. More
-    /// may be known of the open node then.
+    /// leads, as `judge_behind`.
     fn tell_behind(
         &self,
         known: &mut Self::Known,
@@ -134,8 +114,9 @@ pub trait ClaimTree {
             known.old number (is_of self.now next)) }
         ensures kept { (p : Node) → is_of self.now known.old p → is_of self.now known.new p }
     {
-        let _ = found;
-        self.own_claim_behind(known, number)
+        let next = self.behind(known, number);
+        *found = Some(next);
+        self.own_claim(&next)
     }
 
     /// The ways go through the tree.

@@ -34,6 +34,8 @@ pub struct Judging<K: Copy> {
     pub walk: Walk<K>,
     pub taken: u64,
     pub refusal: Option<Refusal>,
+    /// The room of what may be found of a node while a claim of it is judged.
+    pub found: Option<K>,
 }
 
 /// The root alone is owed. All memory is taken here.
@@ -49,6 +51,7 @@ pub fn begin<T: ClaimTree>(alloc: Global, it: &T) -> Result<Judging<T::Known>, A
         walk: Walk { levels, root },
         taken: 0,
         refusal: None,
+        found: None,
     })
 }
 
@@ -76,14 +79,14 @@ pub fn feed<T: ClaimTree>(
     if let Some(refused) = judging.refusal {
         return Err(refused);
     }
-    let mut found = None;
-    let Some(told) = is_next_true(it, &mut judging.walk, claim, &mut found) else {
+    judging.found = None;
+    let Some(told) = is_next_true(it, &mut judging.walk, claim, &mut judging.found) else {
         return refuse(judging, Cause::Over);
     };
     if !told {
         return refuse(judging, Cause::False);
     }
-    go_on(it, &mut judging.walk, it.is_open(claim), &found);
+    go_on(it, &mut judging.walk, it.is_open(claim), &judging.found);
     judging.taken += 1;
     Ok(())
 }

@@ -1,6 +1,6 @@
 //! Where a judge of claims stands among the nodes that are owed.
 
-ghost use Rattle.std.specs.Prelude.{◌≡◌, ◌≤◌, ◌↔◌, ◌<◌, ◌++◌, ◌∷◌, [], List, None, IfSome, IsTrue, length, reverse, vec_capacity};
+ghost use Rattle.std.specs.Prelude.{◌≡◌, ◌≤◌, ◌↔◌, ◌<◌, ◌++◌, ◌∷◌, [], List, true, None, IfSome, IsTrue, length, reverse, vec_capacity};
 ghost use Rattle.std.specs.Bool.{OnFalse, OnTrue};
 ghost use Rattle.cert_tree.specs.declared.walk.Level.{Level as ALevel};
 ghost use Rattle.cert_tree.specs.Walks.{AreLevels, CanGoOn, IsFound, IsOpen, IsWalk, OwesNext, levels_of, node_at, owed_after, owed_by_walk, owed_from, owed_later, steps_of};
@@ -25,13 +25,13 @@ pub struct Walk<K: Copy> {
 
 /// Goes to the first node that is longer than an open one by a step of this number or a later one,
 /// where there is one.
-fn enter<T: ClaimTree>(it: &T, walk: &mut Walk<T::Known>, parent: T::Known, from: usize) -> bool
+fn enter<T: ClaimTree>(it: &T, walk: &mut Walk<T::Known>, parent: &T::Known, from: usize) -> bool
     requires levels { AreLevels (T.tree it.now) (T.is_of it.now) (T.ways it.now)
         (levels_of walk.old) }
     requires root { IfSome walk.old.root (λ known. T.is_of it.now known (T.ways it.now).root) }
     requires room { vec_capacity walk.old.levels ≡ (T.ways it.now).height }
     requires parent { IsOpen (T.tree it.now) (T.is_of it.now)
-        (node_at (T.ways it.now) (levels_of walk.old)) parent }
+        (node_at (T.ways it.now) (levels_of walk.old)) parent.now }
     requires from { from ≤ 8192 }
     ensures walk { OnTrue result (IsWalk (T.tree it.now) (T.is_of it.now) (T.ways it.now)
         walk.new) }
@@ -41,10 +41,13 @@ fn enter<T: ClaimTree>(it: &T, walk: &mut Walk<T::Known>, parent: T::Known, from
         from ≡ []) }
     ensures same { OnFalse result (walk.new ≡ walk.old) }
 {
-    let Some(number) = it.next(&parent, from) else {
+    let Some(number) = it.next(parent, from) else {
         return false;
     };
-    walk.levels.push_reserved(Level { parent, number });
+    walk.levels.push_reserved(Level {
+        parent: *parent,
+        number,
+    });
     true
 }
 
@@ -217,22 +220,44 @@ pub(crate) fn owes_some<T: ClaimTree>(it: &T, walk: &Walk<T::Known>) -> bool
     walk.root.is_some()
 }
 
-/// What is known of the node that is owed next: as it was found on the way, or else found here.
-fn found_or_known<T: ClaimTree>(
-    it: &T,
-    walk: &Walk<T::Known>,
-    found: &Option<T::Known>,
-) -> Option<T::Known>
-    requires walk { IsWalk (T.tree it.now) (T.is_of it.now) (T.ways it.now) walk.now }
-    requires found { IsFound (T.is_of it.now) (node_at (T.ways it.now) (levels_of walk.now))
+/// Goes from the node that is owed next, which is open, to the first of those that are longer by a
+/// step, where there is one. What is known of it was not found on the way.
+fn enter_next<T: ClaimTree>(it: &T, walk: &mut Walk<T::Known>) -> bool
+    requires walk { IsWalk (T.tree it.now) (T.is_of it.now) (T.ways it.now) walk.old }
+    requires owes { OwesNext (T.ways it.now) walk.old }
+    requires parent { CanGoOn (T.tree it.now) (node_at (T.ways it.now) (levels_of walk.old)) true }
+    ensures walk { OnTrue result (IsWalk (T.tree it.now) (T.is_of it.now) (T.ways it.now)
+        walk.new) }
+    ensures owed { OnTrue result (owed_by_walk (T.ways it.now) walk.new
+        ≡ owed_after (T.ways it.now) (levels_of walk.old) true) }
+    ensures none { OnFalse result ((T.ways it.now).longer_from (node_at (T.ways it.now) (levels_of walk.old))
+        0 ≡ []) }
+    ensures same { OnFalse result (walk.new ≡ walk.old) }
+{
+    let Some(parent) = known_next(it, walk) else {
+        return false;
+    };
+    enter(it, walk, &parent, 0)
+}
+
+/// The same, where what is known of it may have been found.
+fn go_in<T: ClaimTree>(it: &T, walk: &mut Walk<T::Known>, found: &Option<T::Known>) -> bool
+    requires walk { IsWalk (T.tree it.now) (T.is_of it.now) (T.ways it.now) walk.old }
+    requires owes { OwesNext (T.ways it.now) walk.old }
+    requires parent { CanGoOn (T.tree it.now) (node_at (T.ways it.now) (levels_of walk.old)) true }
+    requires found { IsFound (T.is_of it.now) (node_at (T.ways it.now) (levels_of walk.old))
         found.now }
-    ensures known { IfSome result (λ known. T.is_of it.now known
-        (node_at (T.ways it.now) (levels_of walk.now))) }
-    ensures none { result ≡ None → owed_by_walk (T.ways it.now) walk.now ≡ [] }
+    ensures walk { OnTrue result (IsWalk (T.tree it.now) (T.is_of it.now) (T.ways it.now)
+        walk.new) }
+    ensures owed { OnTrue result (owed_by_walk (T.ways it.now) walk.new
+        ≡ owed_after (T.ways it.now) (levels_of walk.old) true) }
+    ensures none { OnFalse result ((T.ways it.now).longer_from (node_at (T.ways it.now) (levels_of walk.old))
+        0 ≡ []) }
+    ensures same { OnFalse result (walk.new ≡ walk.old) }
 {
     match found {
-        Some(known) => Some(*known),
-        None => known_next(it, walk),
+        Some(parent) => enter(it, walk, parent, 0),
+        None => enter_next(it, walk),
     }
 }
 
@@ -255,10 +280,8 @@ pub fn go_on<T: ClaimTree>(
         ≡ owed_after (T.ways it.now) (levels_of walk.old) is_open }
 {
     if is_open {
-        if let Some(parent) = found_or_known(it, walk, found) {
-            if enter(it, walk, parent, 0) {
-                return;
-            }
+        if go_in(it, walk, found) {
+            return;
         }
     }
     go_up(it, walk);

@@ -165,15 +165,6 @@ impl<'a, 'f> ClaimTree for SharpCase<'a, 'f> {
         is_true(&self.case, &known.own.judged, known.tail, claim)
     }
 
-    fn is_true_behind(&self, known: &SharpKnown, number: usize, claim: Claim) -> bool {
-        // A strict break is told without lists.
-        if let Claim::Broken(_) = claim {
-            return self.plain.is_true_behind(&known.own, number, claim);
-        }
-        let next = self.behind(known, number);
-        self.is_true(&next, claim)
-    }
-
     fn judge_behind(
         &self,
         known: &mut SharpKnown,
@@ -194,16 +185,6 @@ impl<'a, 'f> ClaimTree for SharpCase<'a, 'f> {
 
     fn own_claim(&self, known: &SharpKnown) -> Claim {
         first_claim(&self.case, &known.own.judged, known.tail)
-    }
-
-    fn own_claim_behind(&self, known: &SharpKnown, number: usize) -> Claim {
-        // A strict break is told without lists.
-        let plain = self.plain.own_claim_behind(&known.own, number);
-        if let Claim::Broken(_) = plain {
-            return plain;
-        }
-        let next = self.behind(known, number);
-        self.own_claim(&next)
     }
 
     fn tell_behind(

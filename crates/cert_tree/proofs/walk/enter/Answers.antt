@@ -10,5 +10,5 @@ push_reserved-requires g c =
       arith,
       c.requires.room,
       few_levels (tree.tree it) (tree.root it) (tree.ways it) (tree.is_of it) (g.met.T.ClaimTree.are_ways it)
-          c.args.walk.now.levels.items c.args.parent c.requires.parent,
+          c.args.walk.now.levels.items c.args.parent.now c.requires.parent,
     )
