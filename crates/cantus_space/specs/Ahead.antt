@@ -1,9 +1,10 @@
 -- What is ahead of a cantus, and what it lets the gauges say.
-use Rattle.std.specs.Prelude.{◌≡◌, ℕ, suc, ◌+◌, ◌-◌, ◌<◌, ◌≤◌, ℤ, pos, ◌≤ℤ◌, int_le, int_lt, Bool, true, false, cond, ◌==◌, ◌||◌, [], ◌∷◌, List, count_by, length, nat_le, if◌then◌else◌, refl}
+use Rattle.std.specs.Prelude.{◌≡◌, ℕ, suc, ◌+◌, ◌-◌, ◌*◌, ◌<◌, ◌≤◌, ℤ, pos, ◌≤ℤ◌, int_le, int_lt, Bool, true, false, cond, ◌==◌, ◌||◌, [], ◌∷◌, List, count_by, length, nat_le, if◌then◌else◌, refl}
 use Rattle.std.specs.Int.{from_bool, int_max}
 use Rattle.std.specs.List.{list_any, range_with_len}
 use Rattle.std.specs.Ordering.{int_eq}
 use Rattle.std.proofs.Common.{arith, sym, ap, ◌∙◌}
+use Rattle.std.proofs.Math.Nat.{mul-le-mul_left}
 use Rattle.std.proofs.lemmas.Bool.{ne_eqb, or_right}
 use Rattle.std.proofs.lemmas.Bool.Decides.{nat_tests}
 use Rattle.std.proofs.lemmas.Int.{ints}
@@ -18,6 +19,7 @@ use Rattle.melody_rules.specs.ClimaxKeys.{climax_is}
 use Rattle.melody_rules.specs.Gauges.{beyond_fourth, climax_repeats, is_narrow, notes_at}
 use Rattle.melody_rules.specs.GaugeLaws.{max_keeps}
 use Rattle.melody_rules.specs.Keys.{greatest_key}
+use Rattle.penalty_sheet.specs.Weights.{weight_of}
 use Rattle.cantus_space.specs.declared.plan.CantusPlan.{CantusPlan}
 use Rattle.cantus_space.specs.Cantus.{is_in_pool, is_in_range, may_sound}
 use Rattle.cantus_space.specs.Melody.{charged, ends_cost, least_ends}
@@ -97,6 +99,16 @@ if_true : (b : Bool) (x : ℕ) → b ≡ true → x ≤ (if b then x else 0)
 if_true true x e = omega arith
 if_true false x e = cc
 
+-- four products are no less where no factor is
+weighed : (v w x y a b c d a' b' c' d' : ℕ) → a ≤ a' → b ≤ b' → c ≤ c' → d ≤ d'
+    → v * a + w * b + x * c + y * d ≤ v * a' + w * b' + x * c' + y * d'
+weighed v w x y a b c d a' b' c' d' f g h k =
+    let first : v * a ≤ v * a' = mul-le-mul_left v f in
+    let second : w * b ≤ w * b' = mul-le-mul_left w g in
+    let third : x * c ≤ x * c' = mul-le-mul_left x h in
+    let fourth : y * d ≤ y * d' = mul-le-mul_left y k in
+    omega (arith, first, second, third, fourth)
+
 module _ (plan : CantusPlan) (ps : List Pitch) (p : Pitch) (room : length ps < plan.bars)
     (pool : is_in_pool plan (length ps + 1) p ≡ true) where
   some_ahead : (starts_ahead plan (length ps) == 0) ≡ false
@@ -146,7 +158,11 @@ module _ (plan : CantusPlan) (ps : List Pitch) (p : Pitch) (room : length ps < p
   strikes_grow = omega arith
 
   pub gauges_grow : least_gauges plan ps ≤ least_gauges plan (p ∷ ps)
-  gauges_grow = grind (arith, climax_grows, compass_grows, leaps_grow, strikes_grow)
+  gauges_grow =
+      weighed (weight_of plan.sheet 17) (weight_of plan.sheet 18) (weight_of plan.sheet 19) (weight_of plan.sheet 20)
+      (least_climax plan ps) (least_compass plan ps) (least_leaps plan ps) (beyond_fourth ps)
+      (least_climax plan (p ∷ ps)) (least_compass plan (p ∷ ps)) (least_leaps plan (p ∷ ps)) (beyond_fourth (p ∷ ps))
+      climax_grows compass_grows leaps_grow strikes_grow
 
 -- ---- of all pitches the gauges say their values
 
