@@ -18,7 +18,8 @@ fn some_runs(turns: bool, runs: Pairs) -> Keeps {
 }
 
 /// The same, with steps between: of runs those of the species voice alone, and then that of it and
-/// the cantus firmus alone, with turning notes and without. In two voices these are all.
+/// the cantus firmus alone, with turning notes and without. Runs bring more than turning notes, so
+/// these alone come last. In two voices these are all.
 pub fn finer_choices(ex: &Exercise) -> [Keeps; 7] {
     let own = Pairs::of_voice(ex.species_voice);
     let least = own.common(&Pairs::of_voice(ex.cantus_voice));
@@ -27,9 +28,9 @@ pub fn finer_choices(ex: &Exercise) -> [Keeps; 7] {
         Keeps::runs_alone(),
         some_runs(true, own),
         some_runs(true, least),
-        Keeps::turns_alone(),
         some_runs(false, own),
         some_runs(false, least),
+        Keeps::turns_alone(),
     ]
 }
 

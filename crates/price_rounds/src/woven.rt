@@ -56,8 +56,12 @@ fn labels_of(web: &Web<Kept>) -> usize {
     labels
 }
 
+/// What keeps more than is always kept has so many parts of the room. Larger webs were measured to
+/// bring next to nothing, and took longer than all else.
+const PARTS_OF_ROOM: usize = 3;
+
 /// The web of the first of these choices of what is kept where there aren't too many ways, nor more
-/// labels than these, or of what is always kept.
+/// labels than these, in a part of the room, or of what is always kept.
 pub fn weave_first(
     alloc: Global,
     space: &SpeciesSpace<'_>,
@@ -73,8 +77,9 @@ pub fn weave_first(
     ensures { IfOk result (λ made. IfSome made (λ woven.
         IsWoven space.now.exercise space.now.sheet woven.keeps woven.web)) }
 {
+    let part = room / PARTS_OF_ROOM;
     for keeps in choices {
-        if let Some(woven) = weave(alloc, space, *keeps, plain, room)? {
+        if let Some(woven) = weave(alloc, space, *keeps, plain, part)? {
             if woven.ways.is_some() && labels_of(&woven.web) <= labels {
                 return Ok(Some(woven));
             }
