@@ -1,4 +1,5 @@
 use Rattle.std.proofs.Common.{◌≡◌, ◌∙◌, subst, sym}
+use Rattle.cert_law.specs.declared.known.PrefixKnown.{PrefixKnown}
 use Rattle.cert_law.specs.Known.{IsBehindKnown, IsStepOf as IsPlainStepOf, KeepsKnown, Tailed, own_in as plain_own, ways_of}
 use Rattle.price_check.specs.Sharps.{Sharp, lists_in, plain_of}
 use Rattle.price_check.proofs.SharpLemmas.{broken_first, plain_step, sharp_kept, sharp_step}
@@ -11,12 +12,11 @@ tell_behind-plain-requires-clause-step c =
     (plain_step c.args.self.now c.args.known.now c.args.number c.requires.step))
 
 -- more may be known without lists then
-kept : (c : goal.After-tell_behind-plain)
-    → KeepsKnown (plain_of c.args.self.now.case) c.args.known.now.own c.tell_behind-plain.new.known
-kept c =
-    subst (λ (s : Sharp). KeepsKnown (plain_of s.case) c.args.known.now.own c.tell_behind-plain.new.known) c.self.view_is
-    (subst (λ (w : Tailed). KeepsKnown w c.args.known.now.own c.tell_behind-plain.new.known) c.self.invariant.without
-    c.tell_behind-plain.ensures.kept)
+plain_kept : (v s : Sharp) (plain : Tailed) (old new : PrefixKnown) → v ≡ s → plain ≡ plain_of v.case
+    → KeepsKnown plain old new → KeepsKnown (plain_of s.case) old new
+plain_kept v s plain old new is without kept =
+    subst (λ (x : Sharp). KeepsKnown (plain_of x.case) old new) is
+    (subst (λ (w : Tailed). KeepsKnown w old new) without kept)
 
 pub returns-in-Broken-clause-own : goal.returns-in-Broken-clause-own
 returns-in-Broken-clause-own c =
@@ -35,28 +35,34 @@ returns-in-Broken-clause-own c =
     ∙ sym (broken_first t.exercise t.sheet t.head (lists_in s) q c.in-Broken.field-0 (sym (told p is.own at) ∙ c.in-Broken.is))
 
 pub returns-in-Broken-clause-kept : goal.returns-in-Broken-clause-kept
-returns-in-Broken-clause-kept c = sharp_kept c.args.self.now c.args.known.now c.tell_behind-plain.new.known (kept c)
+returns-in-Broken-clause-kept c = sharp_kept c.args.self.now c.args.known.now c.tell_behind-plain.new.known (plain_kept _ c.args.self.now _ c.args.known.now.own c.tell_behind-plain.new.known c.self.view_is
+    c.self.invariant.without c.tell_behind-plain.ensures.kept)
 
 pub behind-next-requires : goal.behind-next-requires
 behind-next-requires c =
-    sharp_step c.args.self.now c.args.known.now c.tell_behind-plain.new.known (kept c) c.args.number c.requires.step
+    sharp_step c.args.self.now c.args.known.now c.tell_behind-plain.new.known (plain_kept _ c.args.self.now _ c.args.known.now.own c.tell_behind-plain.new.known c.self.view_is
+    c.self.invariant.without c.tell_behind-plain.ensures.kept) c.args.number c.requires.step
 
 pub own_claim-requires : goal.own_claim-requires
 own_claim-requires c = record {
   node = (ways_of c.args.self.now.case.exercise).child c.requires.step.node c.args.number;
   is_of = c.behind-next.ensures c.requires.step.node
-      (sharp_kept c.args.self.now c.args.known.now c.tell_behind-plain.new.known (kept c) c.requires.step.node
+      (sharp_kept c.args.self.now c.args.known.now c.tell_behind-plain.new.known (plain_kept _ c.args.self.now _ c.args.known.now.own c.tell_behind-plain.new.known c.self.view_is
+      c.self.invariant.without c.tell_behind-plain.ensures.kept) c.requires.step.node
       c.requires.step.is_open.is_of) c.requires.step.step;
 }
 
 pub returns-clause-own : goal.returns-clause-own
 returns-clause-own c = λ p is at.
     c.own_claim.ensures ((ways_of c.args.self.now.case.exercise).child p c.args.number)
-    (c.behind-next.ensures p (sharp_kept c.args.self.now c.args.known.now c.tell_behind-plain.new.known (kept c) p is) at)
+    (c.behind-next.ensures p (sharp_kept c.args.self.now c.args.known.now c.tell_behind-plain.new.known (plain_kept _ c.args.self.now _ c.args.known.now.own c.tell_behind-plain.new.known c.self.view_is
+    c.self.invariant.without c.tell_behind-plain.ensures.kept) p is) at)
 
 pub returns-clause-found : goal.returns-clause-found
 returns-clause-found c = λ p is at.
-    c.behind-next.ensures p (sharp_kept c.args.self.now c.args.known.now c.tell_behind-plain.new.known (kept c) p is) at
+    c.behind-next.ensures p (sharp_kept c.args.self.now c.args.known.now c.tell_behind-plain.new.known (plain_kept _ c.args.self.now _ c.args.known.now.own c.tell_behind-plain.new.known c.self.view_is
+    c.self.invariant.without c.tell_behind-plain.ensures.kept) p is) at
 
 pub returns-clause-kept : goal.returns-clause-kept
-returns-clause-kept c = sharp_kept c.args.self.now c.args.known.now c.tell_behind-plain.new.known (kept c)
+returns-clause-kept c = sharp_kept c.args.self.now c.args.known.now c.tell_behind-plain.new.known (plain_kept _ c.args.self.now _ c.args.known.now.own c.tell_behind-plain.new.known c.self.view_is
+    c.self.invariant.without c.tell_behind-plain.ensures.kept)
