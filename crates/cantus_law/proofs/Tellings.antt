@@ -1,9 +1,9 @@
 -- What is known of pitches tells whether a claim of them is true.
-use Rattle.std.specs.Prelude.{◌≡◌, ◌≢◌, ◌↔◌, ◌⊎◌, ℕ, ◌<◌, ◌≤◌, Bool, IsTrue, List, Option, None, Some, length, nat_eq, reverse}
+use Rattle.std.specs.Prelude.{◌≡◌, ◌≢◌, ◌↔◌, ◌⊎◌, ℕ, ◌<◌, ◌≤◌, Bool, IsTrue, List, Option, None, Some, length, nat_eq, nat_lt, reverse}
 use Rattle.std.specs.declared.cmp.Ordering.{Ordering}
 use Rattle.std.specs.declared.cmp.Ordering.TheVariants.{Equal}
 use Rattle.std.proofs.Common.{arith, inl, inr, ap, sym, ◌∙◌, subst, refl, true≢false}
-use Rattle.std.proofs.lemmas.Bool.{eq-eqb, ne_eqb}
+use Rattle.std.proofs.lemmas.Bool.{eq-eqb, lt-ltb, ne_eqb}
 use Rattle.std.specs.List.{find}
 use Rattle.std.specs.Option.{option_map_or}
 use Rattle.std.specs.Prelude.{if◌then◌else◌, [], ◌∷◌, ◌&&◌, true, false}
@@ -31,6 +31,14 @@ module _ (said : Said) (best : ℕ × List Pitch) (is : said ≡ Some best) (ps 
     (goes : order ≡ order_with said ps) where
   goes_so : order ≡ pitches_order best.1 ps
   goes_so = goes ∙ ap (λ s. order_with s ps) is
+
+  -- a floor that is above the penalty is no better
+  pub higher_truth : (floor value : ℕ) → floor ≡ value → best.0 < floor → IsTrue (nat_lt best.0 floor) ↔ IsNoBetter said ps value
+  higher_truth floor value here high =
+      subst (λ s. IsTrue (nat_lt best.0 floor) ↔ IsNoBetter s ps value) (sym is) (
+        (λ h. inl (omega (arith, here, high))),
+        (λ h. lt-ltb best.0 floor high),
+      )
 
   -- a floor that is the penalty is no better where the pitches are later
   pub tied_truth : (floor value : ℕ) (b : Bool) → floor ≡ value → floor ≡ best.0 → b ≡ is_lt order

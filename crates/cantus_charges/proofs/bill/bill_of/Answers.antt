@@ -60,3 +60,19 @@ returns c =
           bill_sum c.new-space.result _ cantus c.floor-penalty.result c.new-space.ensures refl
           (c.floor-penalty.ensures (reverse cantus) known);
     }
+
+pub floor-penalty-requires : goal.floor-penalty-requires
+floor-penalty-requires c =
+    let cantus = c.args.cantus.now in
+    let i = c.loop-i.i in
+    record {
+      behind = reverse (take i cantus);
+      is_of = c.loop-i.invariant.known;
+      few = omega (
+        arith,
+        front-count cantus i c.loop-i.auto.i-end,
+        c.loop-i.auto.i-end,
+        ap (λ (plan : CantusPlan). plan.bars) c.new-space.ensures,
+        c.requires.most,
+      );
+    }
