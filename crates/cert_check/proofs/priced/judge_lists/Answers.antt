@@ -85,8 +85,8 @@ new-it-requires-clause-case g c =
     is_case c.args.space.now c.exercise-exercise.result.now c.sheet-sheet.result.now c.args.head.now
     c.exercise-exercise.ensures.value c.sheet-sheet.ensures c.exercise-exercise.ensures.valid c.requires.front.sound
 
-pub new-tables-requires : goal.new-tables-requires
-new-tables-requires g c =
+pub new-requires : goal.new-requires
+new-requires g c =
     let there = c.exercise-exercise.ensures.value in
     record {
       valid = subst IsValid (sym there) c.exercise-exercise.ensures.valid;

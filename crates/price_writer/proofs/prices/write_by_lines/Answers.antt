@@ -77,8 +77,8 @@ new-case-requires-clause-case g c =
       sound = sound c.args.space.now.exercise c.args.space.now.sheet c.args.head.now c.requires.holds;
     }
 
-pub new-tables-requires : goal.new-tables-requires
-new-tables-requires g c =
+pub new-requires : goal.new-requires
+new-requires g c =
     let there = c.exercise-exercise.ensures.value in
     record {
       valid = subst IsValid (sym there) c.exercise-exercise.ensures.valid;
