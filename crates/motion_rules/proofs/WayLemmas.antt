@@ -1,18 +1,20 @@
--- Two voices move alike where they go the same way by what each of them moves (`alike_by_ways`), and
--- what they break together is told by that (`badly_by_ways`, `still_is_fine`).
-use Rattle.std.proofs.Common.{◌≡◌, ◌<◌, ◌&&◌, ◌||◌, ℕ, Bool, true, false, if◌then◌else◌, List, Option, Some, None, refl, ap, ◌∙◌, arith}
-use Rattle.std.specs.Prelude.{nat_lt}
+-- Two voices move alike where they go the same way by what each of them moves (`alike_by_ways`), so
+-- where their headings are one (`told_by_headings`), and what they break together is told by that
+-- (`badly_by_ways`, `still_is_fine`).
+use Rattle.std.proofs.Common.{◌≡◌, ◌<◌, ◌&&◌, ◌||◌, ℕ, Bool, true, false, if◌then◌else◌, List, Option, Some, None, refl, ap, ◌∙◌, true≢false, arith}
+use Rattle.std.specs.Prelude.{ℤ, int_lt, nat_lt, pos}
 use Rattle.std.proofs.lemmas.Bool.Decides.{nat_tests}
+use Rattle.std.proofs.lemmas.Int.{ints}
 use Rattle.fux_pitch.specs.declared.interval.Interval.{Interval}
 use Rattle.fux_grid.specs.declared.cell.Cell.{Cell}
 use Rattle.fux_grid.specs.declared.cell.Cell.TheVariants.{Rest, Hold, Start}
 use Rattle.fux_grid.specs.declared.exercise.Exercise.{Exercise}
 use Rattle.fux_grid.specs.Cells.{cell_in}
 use Rattle.rule_law.specs.Pairs.{go_same_way, move_alike, sound_perfect}
-use Rattle.rule_law.specs.Terms.{differs, equal_perfects, interval_in, interval_of_cells, moves, same_way}
+use Rattle.rule_law.specs.Terms.{differs, equal_perfects, falls, interval_in, interval_of_cells, moves, rises, same_way}
 use Rattle.motion_rules.specs.Clear.{move_badly}
 use Rattle.motion_rules.specs.Rows.{are_outer, cross}
-use Rattle.motion_rules.specs.Ways.{way, way_of}
+use Rattle.motion_rules.specs.Ways.{head_alike, heading, heading_by, way, way_of}
 
 none_goes : (i : Option Interval) → go_same_way i None ≡ false
 none_goes None = refl
@@ -24,21 +26,57 @@ both true true i j = refl
 both true false i j = none_goes i
 both false b i j = refl
 
-pub alike_by_ways : (before now : List Cell) (v w : ℕ) → go_same_way (way_of before now v) (way_of before now w)
+alike_by_ways : (before now : List Cell) (v w : ℕ) → go_same_way (way_of before now v) (way_of before now w)
     ≡ move_alike before now v w
 alike_by_ways before now v w =
     both (moves (cell_in before v) (cell_in now v)) (moves (cell_in before w) (cell_in now w))
     (interval_of_cells (cell_in before v) (cell_in now v)) (interval_of_cells (cell_in before w) (cell_in now w))
 
--- a number that is told by a test of the ways is told by the same test of the voices
-pub told_by_ways : (before now : List Cell) (v w : ℕ) (test : Bool → Bool) (one other : Option Interval) (n : ℕ)
-    → one ≡ way_of before now v → other ≡ way_of before now w
-    → n ≡ (if test (go_same_way one other) then 1 else 0)
+-- ---- by which way each moves
+
+-- what rises doesn't fall
+apart : (step : ℤ) → int_lt (pos 0) step ≡ true → int_lt step (pos 0) ≡ false
+apart step up = by (int_lt step (pos 0)) refl
+  where
+    by : (b : Bool) → int_lt step (pos 0) ≡ b → b ≡ false
+    by true e = absurd (omega (arith, ints, e, up))
+    by false e = refl
+
+heads_down : (a b : Bool) → head_alike (if a then 1 else (if b then 2 else 0)) 0 ≡ false
+heads_down true b = refl
+heads_down false true = refl
+heads_down false false = refl
+
+four_ways : (a b c d : Bool) → (a ≡ true → b ≡ false) → (c ≡ true → d ≡ false)
+    → head_alike (if a then 1 else (if b then 2 else 0)) (if c then 1 else (if d then 2 else 0))
+    ≡ ((a && c) || (b && d))
+four_ways true b true d f g = refl
+four_ways true true false d f g = absurd (true≢false (f refl))
+four_ways true false false true f g = refl
+four_ways true false false false f g = refl
+four_ways false true true true f g = absurd (true≢false (g refl))
+four_ways false true true false f g = refl
+four_ways false true false true f g = refl
+four_ways false true false false f g = refl
+four_ways false false c d f g = refl
+
+-- two ways go alike where their headings are one
+alike_headings : (one other : Option Interval) → head_alike (heading_by one) (heading_by other) ≡ go_same_way one other
+alike_headings None other = refl
+alike_headings (Some i) None = heads_down (rises i) (falls i)
+alike_headings (Some i) (Some j) =
+    four_ways (rises i) (falls i) (rises j) (falls j) (apart i.semitones) (apart j.semitones)
+
+-- a number that is told by a test of the headings is told by the same test of the voices
+pub told_by_headings : (before now : List Cell) (v w : ℕ) (test : Bool → Bool) (one other n : ℕ)
+    → one ≡ heading before now v → other ≡ heading before now w
+    → n ≡ (if test (head_alike one other) then 1 else 0)
     → n ≡ (if test (move_alike before now v w) then 1 else 0)
-told_by_ways before now v w test one other n e f g =
-    g ∙ ap (λ (x : Option Interval). if test (go_same_way x other) then 1 else 0) e
-    ∙ ap (λ (x : Option Interval). if test (go_same_way (way_of before now v) x) then 1 else 0) f
-    ∙ ap (λ b. if test b then 1 else 0) (alike_by_ways before now v w)
+told_by_headings before now v w test one other n e f g =
+    g ∙ ap (λ x. if test (head_alike x other) then 1 else 0) e
+    ∙ ap (λ x. if test (head_alike (heading before now v) x) then 1 else 0) f
+    ∙ ap (λ b. if test b then 1 else 0)
+    (alike_headings (way_of before now v) (way_of before now w) ∙ alike_by_ways before now v w)
 
 -- ---- a voice moves where it moves by an interval
 

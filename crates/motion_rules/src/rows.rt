@@ -1,12 +1,12 @@
 //! Each rule and toll over the columns that it reads.
 
 ghost use Rattle.std.specs.Prelude.{◌≡◌, ◌≤◌, ◌∷◌, [], if◌then◌else◌};
-ghost use Rattle.rule_law.specs.Pairs as pairs;
 ghost use Rattle.motion_rules.specs.Rows as rows;
+ghost use Rattle.motion_rules.specs.Ways as ways;
 
-use crate::ways::{go_same_way, way_of};
+use crate::ways::{head_alike, heading_of};
 use fux_grid::{Cell, Exercise, VoiceSet, cell_of};
-use fux_pitch::{Interval, semitone};
+use fux_pitch::semitone;
 use rule_law::{
     Latest, both_move, equal_perfects, interval_of_cells, move_into_perfect, one_starts, pair_of,
 };
@@ -66,23 +66,23 @@ pub(crate) fn outer_move_into_perfect(
 
 /// 1 where Q11 stands for two voices that move so, else 0.
 #[inline(always)]
-fn alike(one: Option<Interval>, other: Option<Interval>) -> u32
-    ensures value { result ≡ (if pairs.go_same_way one other then 1 else 0) }
+fn alike(one: u8, other: u8) -> u32
+    ensures value { result ≡ (if ways.head_alike one other then 1 else 0) }
     ensures bound { result ≤ 1 }
 {
-    u32::from(go_same_way(one, other))
+    u32::from(head_alike(one, other))
 }
 
-/// Q11. How each voice moves is found once.
+/// Q11. Which way each voice moves is found once.
 #[inline(always)]
 fn pairs_alike(before: &[Cell], now: &[Cell]) -> u32
     ensures value { result ≡ rows.pairs_alike before.now now.now }
     ensures bound { result ≤ 6 }
 {
-    let first = way_of(before, now, 0);
-    let second = way_of(before, now, 1);
-    let third = way_of(before, now, 2);
-    let fourth = way_of(before, now, 3);
+    let first = heading_of(before, now, 0);
+    let second = heading_of(before, now, 1);
+    let third = heading_of(before, now, 2);
+    let fourth = heading_of(before, now, 3);
     alike(first, second)
         + alike(first, third)
         + alike(first, fourth)

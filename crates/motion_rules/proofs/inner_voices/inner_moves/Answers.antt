@@ -5,7 +5,7 @@ use Rattle.rule_law.specs.Pairs.{count_pairs, sound_perfect}
 use Rattle.rule_law.specs.Voices.{voice_pairs}
 use Rattle.motion_rules.specs.InnerVoices.{inner_move_into_perfect}
 use Rattle.motion_rules.specs.Rows.{are_outer}
-use Rattle.motion_rules.proofs.WayLemmas.{told_by_ways}
+use Rattle.motion_rules.proofs.WayLemmas.{told_by_headings}
 use Rattle.motion_rules.proofs.inner_voices.inner_moves.Goals as goal
 
 enough : (n : ℕ) → 3 ≤ n → nat_le 3 n ≡ true
@@ -22,11 +22,11 @@ returns-clause-value c =
     let all : c.pays.result + c.pays-2.result + c.pays-3.result + c.pays-4.result + c.pays-5.result + c.pays-6.result
     ≡ count_pairs (inner_move_into_perfect ex before now) = omega (
       arith,
-      told_by_ways before now 0 1 (test 0 1) _ _ _ c.way_of-first.ensures c.way_of-second.ensures c.pays.ensures.value,
-      told_by_ways before now 0 2 (test 0 2) _ _ _ c.way_of-first.ensures c.way_of-third.ensures c.pays-2.ensures.value,
-      told_by_ways before now 0 3 (test 0 3) _ _ _ c.way_of-first.ensures c.way_of-fourth.ensures c.pays-3.ensures.value,
-      told_by_ways before now 1 2 (test 1 2) _ _ _ c.way_of-second.ensures c.way_of-third.ensures c.pays-4.ensures.value,
-      told_by_ways before now 1 3 (test 1 3) _ _ _ c.way_of-second.ensures c.way_of-fourth.ensures c.pays-5.ensures.value,
-      told_by_ways before now 2 3 (test 2 3) _ _ _ c.way_of-third.ensures c.way_of-fourth.ensures c.pays-6.ensures.value,
+      told_by_headings before now 0 1 (test 0 1) _ _ _ c.heading_of-first.ensures c.heading_of-second.ensures c.pays.ensures.value,
+      told_by_headings before now 0 2 (test 0 2) _ _ _ c.heading_of-first.ensures c.heading_of-third.ensures c.pays-2.ensures.value,
+      told_by_headings before now 0 3 (test 0 3) _ _ _ c.heading_of-first.ensures c.heading_of-fourth.ensures c.pays-3.ensures.value,
+      told_by_headings before now 1 2 (test 1 2) _ _ _ c.heading_of-second.ensures c.heading_of-third.ensures c.pays-4.ensures.value,
+      told_by_headings before now 1 3 (test 1 3) _ _ _ c.heading_of-second.ensures c.heading_of-fourth.ensures c.pays-5.ensures.value,
+      told_by_headings before now 2 3 (test 2 3) _ _ _ c.heading_of-third.ensures c.heading_of-fourth.ensures c.pays-6.ensures.value,
     ) in
     all ∙ sym (ap (λ b. if b then count_pairs (inner_move_into_perfect ex before now) else 0) many)
