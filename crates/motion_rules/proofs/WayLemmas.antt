@@ -1,10 +1,11 @@
 -- Two voices move alike where they go the same way by what each of them moves (`alike_by_ways`), so
 -- where their headings are one (`told_by_headings`), and what they break together is told by that
 -- (`badly_by_ways`, `still_is_fine`).
-use Rattle.std.proofs.Common.{◌≡◌, ◌<◌, ◌&&◌, ◌||◌, ℕ, Bool, true, false, if◌then◌else◌, List, Option, Some, None, refl, ap, ◌∙◌, true≢false, arith}
+use Rattle.std.proofs.Common.{◌≡◌, ◌<◌, ◌≤◌, ◌&&◌, ◌||◌, ℕ, length, Bool, true, false, if◌then◌else◌, List, Option, Some, None, refl, ap, ◌∙◌, true≢false, arith}
 use Rattle.std.specs.Prelude.{ℤ, int_lt, nat_lt, pos}
 use Rattle.std.proofs.lemmas.Bool.Decides.{nat_tests}
 use Rattle.std.proofs.lemmas.Int.{ints}
+use Rattle.std.proofs.lemmas.List.{get_or_past}
 use Rattle.fux_pitch.specs.declared.interval.Interval.{Interval}
 use Rattle.fux_grid.specs.declared.cell.Cell.{Cell}
 use Rattle.fux_grid.specs.declared.cell.Cell.TheVariants.{Rest, Hold, Start}
@@ -77,6 +78,24 @@ told_by_headings before now v w test one other n e f g =
     ∙ ap (λ x. if test (head_alike (heading before now v) x) then 1 else 0) f
     ∙ ap (λ b. if test b then 1 else 0)
     (alike_headings (way_of before now v) (way_of before now w) ∙ alike_by_ways before now v w)
+
+-- a voice that a column lacks moves with no other
+absent_moves : (c d : Cell) → d ≡ Rest → moves c d ≡ false
+absent_moves c Rest e = refl
+absent_moves c (Hold q) e = cc
+absent_moves c (Start q) e = cc
+
+none_of : (a b x : Bool) → b ≡ false → ◌≡◌ {A = ℕ} (if (a && b) && x then 1 else 0) 0
+none_of true b x e = ap (λ y. if y && x then 1 else 0) e
+none_of false b x e = refl
+
+pub absent_pair : (before now : List Cell) (v w : ℕ) → length now ≤ w
+    → ◌≡◌ {A = ℕ} (if move_alike before now v w then 1 else 0) 0
+absent_pair before now v w past =
+    none_of (moves (cell_in before v) (cell_in now v)) (moves (cell_in before w) (cell_in now w))
+    (go_same_way (interval_of_cells (cell_in before v) (cell_in now v))
+    (interval_of_cells (cell_in before w) (cell_in now w)))
+    (absent_moves (cell_in before w) (cell_in now w) (get_or_past now w Rest past))
 
 -- ---- a voice moves where it moves by an interval
 

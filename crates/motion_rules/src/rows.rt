@@ -1,6 +1,7 @@
 //! Each rule and toll over the columns that it reads.
 
 ghost use Rattle.std.specs.Prelude.{◌≡◌, ◌≤◌, ◌∷◌, [], if◌then◌else◌};
+ghost use Rattle.rule_law.specs.Pairs as pairs;
 ghost use Rattle.motion_rules.specs.Rows as rows;
 ghost use Rattle.motion_rules.specs.Ways as ways;
 
@@ -73,9 +74,18 @@ fn alike(one: u8, other: u8) -> u32
     u32::from(head_alike(one, other))
 }
 
-/// Q11. Which way each voice moves is found once.
+/// Q11 of the two lowest voices.
 #[inline(always)]
-fn pairs_alike(before: &[Cell], now: &[Cell]) -> u32
+fn two_alike(before: &[Cell], now: &[Cell]) -> u32
+    ensures value { result ≡ (if pairs.move_alike before.now now.now 0 1 then 1 else 0) }
+    ensures bound { result ≤ 1 }
+{
+    alike(heading_of(before, now, 0), heading_of(before, now, 1))
+}
+
+/// Q11 of four voices. Which way each moves is found once.
+#[inline(always)]
+fn four_alike(before: &[Cell], now: &[Cell]) -> u32
     ensures value { result ≡ rows.pairs_alike before.now now.now }
     ensures bound { result ≤ 6 }
 {
@@ -89,6 +99,18 @@ fn pairs_alike(before: &[Cell], now: &[Cell]) -> u32
         + alike(second, third)
         + alike(second, fourth)
         + alike(third, fourth)
+}
+
+/// Q11. No more is asked of two voices than how the one pair moves.
+#[inline(always)]
+fn pairs_alike(before: &[Cell], now: &[Cell]) -> u32
+    ensures value { result ≡ rows.pairs_alike before.now now.now }
+    ensures bound { result ≤ 6 }
+{
+    if now.len() <= 2 {
+        return two_alike(before, now);
+    }
+    four_alike(before, now)
 }
 
 /// Whether a rule is broken at a column, whose cells are `now`, after the column whose cells are
