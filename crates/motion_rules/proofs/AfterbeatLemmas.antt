@@ -1,9 +1,9 @@
--- Where S18 may be broken (`within_a_bar`, `elsewhere`), and that it is settled at its own column
--- (`newly_bare`).
+-- Where S18 may be broken (`within_a_bar`, `none_bare`, `elsewhere`), and that it is settled at its
+-- own column (`newly_bare`).
 use Rattle.std.specs.Prelude.{◌≡◌, ℕ, ◌==◌, Bool, true, false, ◌&&◌, ◌||◌, nat_le, List, [], ◌∷◌, ◌++◌, Option, Some, None, IsTrue, is_some, length, slice_index_or, if◌then◌else◌, refl}
-use Rattle.std.proofs.Common.{ap}
+use Rattle.std.proofs.Common.{ap, ◌∙◌}
 use Rattle.std.specs.Option.{option_map_or}
-use Rattle.std.proofs.lemmas.Bool.{and_right}
+use Rattle.std.proofs.lemmas.Bool.{and_right, or_parts}
 use Rattle.fux_grid.specs.declared.cell.Cell.{Cell}
 use Rattle.fux_grid.specs.declared.exercise.Exercise.{Exercise}
 use Rattle.fux_grid.specs.Cells.{cell_in, pitch_of}
@@ -13,7 +13,7 @@ use Rattle.rule_law.specs.Bars.{bar_line_before, begins_bar}
 use Rattle.rule_law.specs.Places.{reading_of}
 use Rattle.rule_law.specs.Quiet.{on_pair-none}
 use Rattle.rule_law.specs.Rulebooks.{IsAmong, RuleRow, newly_breaks}
-use Rattle.motion_rules.specs.Afterbeats.{afterbeat_row, arrive_in_parallel, goes_within_bars, moves_within_bars, never_leaves, newest_cells, stays_since_bar}
+use Rattle.motion_rules.specs.Afterbeats.{afterbeat_row, arrive_at_bar, arrive_in_parallel, goes_within_bars, is_bare_parallel, moves_within_bars, never_leaves, newest_cells, stays_since_bar}
 use Rattle.motion_rules.specs.Book.{at_once_row, is_late, late_row, may_be_bare, rule_row}
 
 -- within a bar S18 isn't broken
@@ -34,6 +34,17 @@ goes_only ex v h = at ex.mixed (v == ex.species_voice) h
     at None true none = none
     at None false none = refl
     at (Some species) b none = cc
+
+-- two voices of which none goes on within bars don't break it
+pub none_bare : (ex : Exercise) (i : ℕ) (behind : List (List Cell)) (now : List Cell) (v w : ℕ)
+    → (goes_within_bars ex v || goes_within_bars ex w) ≡ false → is_bare_parallel ex i behind now v w ≡ false
+none_bare ex i behind now v w none =
+    let both = or_parts (goes_within_bars ex v) (goes_within_bars ex w) none in
+    and_right (arrive_at_bar i (bar_line_before behind) now v w)
+    (stays_since_bar ex behind v || stays_since_bar ex behind w)
+    (ap (λ b. (b && never_leaves (pitch_of (cell_in (bar_line_before behind) v)) (newest_cells behind v))
+    || stays_since_bar ex behind w) both.0
+    ∙ ap (λ b. b && never_leaves (pitch_of (cell_in (bar_line_before behind) w)) (newest_cells behind w)) both.1)
 
 -- where it may not be broken, no two voices break it
 pub elsewhere : (ex : Exercise) (voices i : ℕ) (behind : List (List Cell)) (now : List Cell)

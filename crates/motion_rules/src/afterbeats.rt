@@ -1,7 +1,7 @@
 //! S18: equal perfect intervals at the beginnings of two bars in a row, with nothing between that
 //! hides them.
 
-ghost use Rattle.std.specs.Prelude.{◌≡◌, ◌<◌, ◌≤◌, ◌-◌, ℕ, length};
+ghost use Rattle.std.specs.Prelude.{◌≡◌, ◌<◌, ◌≤◌, ◌-◌, ◌||◌, ℕ, length};
 ghost use Rattle.fux_grid.specs.Cells.{cell_in, pitch_of};
 ghost use Rattle.fux_grid.specs.Columns.{Columns, earlier};
 ghost use Rattle.rule_law.specs.Places.{reading_back, reading_of};
@@ -113,12 +113,23 @@ fn stays_since_bar<C: ColumnsAround>(around: &C, ex: &Exercise, i: usize, v: u8)
     )
 }
 
-/// S18 of two voices.
+/// Whether one of two voices goes on within bars.
+#[inline]
+fn one_goes_on(ex: &Exercise, v: u8, w: u8) -> bool
+    ensures { result ≡ (words.goes_within_bars ex.now v || words.goes_within_bars ex.now w) }
+{
+    goes_within_bars(ex, v) || goes_within_bars(ex, w)
+}
+
+/// S18 of two voices. What they arrive at is looked at only where one of them goes on within bars.
 fn is_bare_parallel<C: ColumnsAround>(around: &C, ex: &Exercise, i: usize, v: u8, w: u8) -> bool
     requires { ex.now.voices ≤ 4 }
     ensures { (s : Columns) (first : ℕ) → C.show around.now ex.now s first → first ≤ i - 8 → i
         < length s → result ≡ reading_back (words.is_bare_parallel ex.now) s i v w }
 {
+    if !one_goes_on(ex, v, w) {
+        return false;
+    }
     arrive_at_bar(i, cells_behind(around, ex, i, 7), around.cells(ex, i), v, w)
         && (stays_since_bar(around, ex, i, v) || stays_since_bar(around, ex, i, w))
 }
