@@ -8,6 +8,7 @@ use Rattle.std.proofs.lemmas.Bool.{and_parts, eq-eqb, eqb-true}
 use Rattle.std.proofs.lemmas.Bool.Decides.{nat_tests}
 use Rattle.std.proofs.lemmas.List.{length-drop}
 use Rattle.fux_grid.specs.declared.cell.Cell.{Cell}
+use Rattle.fux_grid.specs.declared.cell.Cell.TheVariants.{Rest}
 use Rattle.fux_grid.specs.declared.exercise.Exercise.{Exercise}
 use Rattle.fux_grid.specs.Cells.{cell_in, same_cell}
 use Rattle.fux_grid.specs.Columns.{cell_at, earlier}
@@ -56,6 +57,16 @@ module _ (s : List (List Cell)) (v i : ℕ) (second : 8 ≤ i) (whole : i + 8 �
     where
       enough : (n : ℕ) → 7 ≤ n → nat_le 7 n ≡ true
       enough n h = grind (arith, nat_tests)
+
+  -- so a bar whose first cell is another repeats nothing
+  pub first_differs : same_cell (cell_at s v (i - 8)) (cell_at s v i) ≡ false
+      → repeats_bar v (earlier s i) (slice_index_or s i []) (drop (i + 1) s) ≡ false
+  first_differs other =
+      let back : i + 8 - 8 ≡ i = omega arith in
+      bar_reading
+      ∙ ap (λ b. b && list_all (λ k. same_cell (slice_index_or (bar_behind s v i) k Rest)
+      (slice_index_or (bar_behind s v (i + 8)) k Rest)) (6 ∷ 5 ∷ 4 ∷ 3 ∷ 2 ∷ 1 ∷ 0 ∷ []))
+      (ap (λ n. same_cell (cell_at s v (i - 8)) (cell_at s v n)) back ∙ other)
 
 -- a bar that isn't whole repeats nothing
 pub part_reading : (s : List (List Cell)) (v i : ℕ) → length s < i + 8

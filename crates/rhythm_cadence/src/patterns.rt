@@ -1,7 +1,8 @@
 //! The tolls Q15 and Q16: ligatures that are missing, and bars that repeat the bar before.
 
 ghost use Rattle.std.specs.Prelude.{◌≡◌, ◌-◌, ◌<◌, ◌≤◌, ◌&&◌, ℕ, length, nat_lt, true};
-ghost use Rattle.fux_grid.specs.Columns.{Columns};
+ghost use Rattle.fux_grid.specs.Cells.{same_cell};
+ghost use Rattle.fux_grid.specs.Columns.{Columns, cell_at};
 ghost use Rattle.rule_law.specs.Bars.{begins_bar as begins};
 ghost use Rattle.rule_law.specs.Places.{reading_of, settled_by};
 ghost use Rattle.rule_law.specs.Voices as voices_words;
@@ -10,7 +11,7 @@ ghost use Rattle.rhythm_cadence.specs.Patterns.{pattern_enough, pattern_toll};
 
 use crate::bar_cells::bar_behind;
 use fux_grid::{Cell, Exercise, Score, cell_of, slot_of, species_of};
-use rule_law::{ColumnsAround, begins_bar, begins_inner_bar, is_free, starts};
+use rule_law::{ColumnsAround, begins_bar, begins_inner_bar, cell_around, is_free, starts};
 
 /// Whether a voice is free and of species 4, and starts a note at the beginning of a bar that is
 /// neither the first nor the last.
@@ -55,7 +56,19 @@ fn same_cells(a: &[Cell; 8], b: &[Cell; 8]) -> bool
         && a[0].is_same(b[0])
 }
 
-/// Whether the bar that begins at column `i` is whole and repeats the bar before.
+/// Whether a voice has the cell at column `i` that it had eight columns before.
+#[inline]
+fn repeats_first<C: ColumnsAround>(around: &C, ex: &Exercise, i: usize, v: u8) -> bool
+    requires voices { ex.now.voices ≤ 4 }
+    requires second { 8 ≤ i }
+    ensures { (s : Columns) (first : ℕ) → C.show around.now ex.now s first → first ≤ i - 8 →
+        result ≡ same_cell (cell_at s v (i - 8)) (cell_at s v i) }
+{
+    cell_around(around, ex, v, i - 8).is_same(cell_around(around, ex, v, i))
+}
+
+/// Whether the bar that begins at column `i` is whole and repeats the bar before. Mostly its first
+/// cell is another, and then no more is read.
 fn repeats_bar<C: ColumnsAround>(around: &C, ex: &Exercise, i: usize, v: u8) -> bool
     requires voices { ex.now.voices ≤ 4 }
     requires second { 8 ≤ i }
@@ -65,6 +78,9 @@ fn repeats_bar<C: ColumnsAround>(around: &C, ex: &Exercise, i: usize, v: u8) -> 
         result ≡ reading_of (λ _. words.repeats_bar v) s i }
 {
     if i + 8 > around.count() {
+        return false;
+    }
+    if !repeats_first(around, ex, i, v) {
         return false;
     }
     same_cells(
