@@ -70,6 +70,19 @@ good-clean species previous here next clean after =
     good_bent (is_passing previous here next) (has_ornaments species) (is_neighbor previous here next)
     (bends_down previous here next) clean (lies_above 1 after next)
 
+-- and where it may be none, neither that nor the note after the next one matters
+straight : (p b f l c a d e : Bool) → l ≡ false
+    → (p || (b && (f || ((l && c) && a)))) ≡ (p || (b && (f || ((l && d) && e))))
+straight p b f true c a d e h = cc
+straight p b f false c a d e h = refl
+
+pub good-straight : (species : ℕ) (previous here next : Option Pitch) (clean : Bool) (after : Option Pitch)
+    (other : Bool) (later : Option Pitch) → bends_down previous here next ≡ false
+    → is_good species previous here next clean after ≡ is_good species previous here next other later
+good-straight species previous here next clean after other later h =
+    straight (is_passing previous here next) (has_ornaments species) (is_neighbor previous here next)
+    (bends_down previous here next) clean (lies_above 1 after next) other (lies_above 1 later next) h
+
 -- ---- whether S15 is open in the first columns
 
 module _ (ex : Exercise) (s : List (List Cell)) (i end v w : ℕ) (here : i < end) (fits : end ≤ length s) where

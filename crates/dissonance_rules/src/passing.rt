@@ -17,7 +17,7 @@ use fux_grid::{Cell, Exercise, Onset, cell_of, is_mixed, species_of};
 use fux_pitch::{Pitch, interval_of};
 use rule_law::{
     ColumnsAround, begins_bar, cell_around, cells_ahead, falls, is_clash, is_clean, is_free,
-    is_step, lies_above, note_within, onset_pitch, same_way, starts,
+    is_step, lies_above, next_onset, note_within, onset_pitch, same_way, starts,
 };
 
 /// A passing note: the move to it and the move from it are steps the same way.
@@ -204,9 +204,9 @@ fn is_clean_where<C: ColumnsAround>(
     is_clean_at(around, ex, i, v, note)
 }
 
-/// Whether the note of a free voice that starts at column `i` is good. That the voice is clean at
-/// the next note is asked only where it may be a cambiata.
-pub(crate) fn is_good_note<C: ColumnsAround>(around: &C, ex: &Exercise, i: usize, v: u8) -> bool
+/// Whether the note of a free voice that starts at column `i` is good, by the next two notes. That
+/// the voice is clean at the next one is asked only where it may be a cambiata.
+fn is_good_by_two<C: ColumnsAround>(around: &C, ex: &Exercise, i: usize, v: u8) -> bool
     requires voices { ex.now.voices ≤ 4 }
     requires room { C.size around.now ≤ 192 }
     requires place { i < C.size around.now }
@@ -222,6 +222,24 @@ pub(crate) fn is_good_note<C: ColumnsAround>(around: &C, ex: &Exercise, i: usize
     let bent = bends_down(previous, here, follows);
     let clean = is_clean_where(around, ex, i, v, next.first, bent);
     is_good(species_of(ex, v), previous, here, follows, clean, after)
+}
+
+/// Whether the note of a free voice that starts at column `i` is good. The note after the next one
+/// is looked for only where it may be a cambiata.
+pub(crate) fn is_good_note<C: ColumnsAround>(around: &C, ex: &Exercise, i: usize, v: u8) -> bool
+    requires voices { ex.now.voices ≤ 4 }
+    requires room { C.size around.now ≤ 192 }
+    requires place { i < C.size around.now }
+    ensures { (s : Columns) (first : ℕ) → C.show around.now ex.now s first → first ≤ i - 1
+        → voices.is_free ex.now v ≡ true → result ≡ reading_of (words.is_good_in ex.now) s i v }
+{
+    let previous = around.pitch_before(ex, v, i);
+    let here = cell_around(around, ex, v, i).pitch();
+    let follows = onset_pitch(next_onset(around, ex, v, i));
+    if !bends_down(previous, here, follows) {
+        return is_good(species_of(ex, v), previous, here, follows, false, None);
+    }
+    is_good_by_two(around, ex, i, v)
 }
 
 /// Whether a free voice starts a note at column `i` that isn't good.

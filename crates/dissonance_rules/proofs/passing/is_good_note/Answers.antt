@@ -1,40 +1,36 @@
-use Rattle.std.specs.Prelude.{◌≡◌, ◌+◌, ◌&&◌, Bool, drop, refl}
-use Rattle.std.proofs.Common.{ap, ◌∙◌, arith}
+use Rattle.std.specs.Prelude.{◌+◌, Bool, false, Option, None, drop}
+use Rattle.std.proofs.Common.{ap, sym, ◌∙◌, arith}
+use Rattle.fux_pitch.specs.declared.pitch.Pitch.{Pitch}
 use Rattle.fux_grid.specs.Cells.{pitch_of}
+use Rattle.fux_grid.specs.Columns.{cell_at, earlier, line}
 use Rattle.fux_grid.specs.Exercises.{species_in}
-use Rattle.rule_law.specs.After.{onset_pitch}
-use Rattle.dissonance_rules.specs.Passing.{bends_down, is_good, starts_clean}
-use Rattle.dissonance_rules.proofs.PassingReadings.{good-clean, good_found}
+use Rattle.rule_law.specs.After.{onset_pitch, second_next_onset}
+use Rattle.rule_law.specs.Terms.{previous_pitch}
+use Rattle.dissonance_rules.specs.Passing.{is_good, next_is_clean}
+use Rattle.dissonance_rules.proofs.PassingReadings.{good-straight}
 use Rattle.dissonance_rules.proofs.passing.is_good_note.Goals as goal
 
-pub returns : goal.returns
-returns g c = λ s first shown from free.
+pub returns-then-not-bends_down : goal.returns-then-not-bends_down
+returns-then-not-bends_down g c = λ s first shown from free.
     let ex = c.args.ex.now in
     let i = c.args.i in
     let v = c.args.v in
     let species = species_in ex v in
-    let previous = c.pitch_before-previous.result in
-    let here = pitch_of c.cell_around-now.result in
-    let next = c.next_notes-next.result.first in
-    let second = c.next_notes-next.result.second in
-    let there : Bool = starts_clean i (drop (i + 1) s) v next in
-    let size = g.met.C.ColumnsAround.counted c.args.around.now ex s first shown in
-    let bent : c.bends_down-bent.result ≡ bends_down previous here (onset_pitch next) =
-    c.bends_down-bent.ensures
-    ∙ ap (λ p. bends_down previous p c.onset_pitch-follows.result) c.pitch-here.ensures
-    ∙ ap (bends_down previous here) c.onset_pitch-follows.ensures in
-    let clean : c.is_clean_where-clean.result ≡ (bends_down previous here (onset_pitch next) && there) =
-    c.is_clean_where-clean.ensures s first shown (omega (arith, from)) ∙ ap (λ b. b && there) bent in
+    let before : Option Pitch = previous_pitch (line v (earlier s i)) in
+    let now : Option Pitch = pitch_of (cell_at s v i) in
+    let clean : Bool = next_is_clean i (drop (i + 1) s) v in
+    let after : Option Pitch = onset_pitch (second_next_onset i v (drop (i + 1) s)) in
     c.is_good.ensures
-    ∙ rw (c.species_of.ensures.value, c.pitch-here.ensures, c.onset_pitch-follows.ensures, c.onset_pitch-after.ensures)
-    (ap (λ b. is_good species previous here (onset_pitch next) b (onset_pitch second)) clean
-    ∙ good-clean species previous here (onset_pitch next) there (onset_pitch second)
-    ∙ good_found species s i v c.count.result previous c.cell_around-now.result next second there
-    (c.count.ensures ∙ size)
-    record {
-      previous_is = c.pitch_before-previous.ensures s first shown from free;
-      now_is = c.cell_around-now.ensures s first shown (omega (arith, from));
-      next_is = c.next_notes-next.ensures.first s first shown (omega (arith, from));
-      second_is = c.next_notes-next.ensures.second s first shown (omega (arith, from));
-      clean_is = refl;
-    })
+    ∙ good-straight c.species_of.result c.pitch_before-previous.result c.pitch-here.result c.onset_pitch-follows.result
+    false None clean after (sym c.bends_down.ensures ∙ c.if-not-bends_down.true)
+    ∙ ap (λ n. is_good n c.pitch_before-previous.result c.pitch-here.result c.onset_pitch-follows.result clean after)
+    c.species_of.ensures.value
+    ∙ ap (λ (p : Option Pitch). is_good species p c.pitch-here.result c.onset_pitch-follows.result clean after)
+    (c.pitch_before-previous.ensures s first shown from free)
+    ∙ ap (λ (p : Option Pitch). is_good species before p c.onset_pitch-follows.result clean after)
+    (c.pitch-here.ensures ∙ ap pitch_of (c.cell_around.ensures s first shown (omega (arith, from))))
+    ∙ ap (λ (p : Option Pitch). is_good species before now p clean after)
+    (c.onset_pitch-follows.ensures ∙ ap onset_pitch (c.next_onset.ensures s first shown (omega (arith, from))))
+
+pub returns : goal.returns
+returns g c = λ s first shown from free. c.is_good_by_two.ensures s first shown from free
