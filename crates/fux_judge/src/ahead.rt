@@ -2,22 +2,22 @@
 
 ghost use Rattle.std.specs.Prelude.{◌≡◌, ◌<◌, ◌≤◌, ◌+◌, ◌-◌, ◌∷◌, ◌++◌, [], ℕ, List, length, false, pos, true};
 ghost use Rattle.fux_grid.specs.declared.cell.Cell.{Cell as ACell};
+ghost use Rattle.fux_grid.specs.declared.cell.Cell.TheVariants.{Hold};
 ghost use Rattle.fux_grid.specs.Cells.{cell_in};
 ghost use Rattle.std.specs.Bool.{OnTrue};
 ghost use Rattle.fux_grid.specs.declared.given.Given.TheVariants.{Blank};
-ghost use Rattle.fux_grid.specs.Exercises.{IsFree, IsValid, columns_in, given_at};
+ghost use Rattle.fux_grid.specs.Exercises.{IsFree, IsValid, bar_of, columns_in, given_at, slot_of, species_in};
 ghost use Rattle.fux_grid.specs.Menus.{IsInMenu};
+ghost use Rattle.fux_grid.specs.Shapes.{allows, shapes_in};
 ghost use Rattle.rule_law.specs.Gauges as words;
 ghost use Rattle.melody_rules.specs.Gauges.{is_topped};
 ghost use Rattle.melody_rules.specs.Gauges as gauges_words;
 ghost use Rattle.fux_judge.specs.GaugeStates.{AreAheadOf, IsAheadOf, StepsAhead};
 
-use fux_grid::{
-    Cell, Exercise, Given, START, allows, bar_of, cell_of, given_at, range, shapes_of, slot_of,
-    species_of,
-};
-use fux_pitch::semitone;
+use fux_grid::{Cell, Exercise, Given, bar_of, cell_of, given_at, range, slot_of, species_of};
+use fux_pitch::{Pitch, semitone};
 use melody_rules::is_final_climax;
+use rhythm_cadence::fitting_shapes;
 use rule_law::{is_free, menu_starts, starts_ahead};
 
 /// What lies ahead of a line.
@@ -110,6 +110,40 @@ fn is_open(ex: &Exercise, v: u8, i: usize) -> bool
     }
 }
 
+/// Whether some shape of a voice has a start at a column's slot, as a note of this pitch would be
+/// one. It is read from what is known of its species, and no shape is asked.
+#[inline]
+fn allows_start(ex: &Exercise, v: u8, i: usize, pitch: Pitch) -> bool
+    requires valid { IsValid ex.now }
+    requires place { i < columns_in ex.now }
+    ensures { result ≡ allows (shapes_in (species_in ex.now v) (bar_of i) ex.now.bars) (slot_of i)
+        83 }
+{
+    fitting_shapes(
+        species_of(ex, v),
+        bar_of(i),
+        ex.bars,
+        slot_of(i),
+        Cell::Start(pitch),
+    ) != 0
+}
+
+/// Whether the menu of a column has a start of a free voice, where the voice holds a note of this
+/// pitch in one of its columns.
+#[inline]
+fn may_start_anew(ex: &Exercise, v: u8, i: usize, pitch: Pitch) -> bool
+    requires valid { IsValid ex.now }
+    requires free { IsFree ex.now v }
+    requires place { i < columns_in ex.now }
+    ensures { (col : List ACell) → IsInMenu ex.now i col → cell_in col v ≡ Hold pitch → result
+        ≡ words.menu_starts ex.now v i }
+{
+    if !allows_start(ex, v, i, pitch) {
+        return false;
+    }
+    is_open(ex, v, i) || menu_starts(ex, v, i)
+}
+
 /// Whether the menu of a column has a start of a free voice, where the voice has this cell in one
 /// of its columns.
 fn may_start(ex: &Exercise, v: u8, i: usize, cell: Cell) -> bool
@@ -119,13 +153,9 @@ fn may_start(ex: &Exercise, v: u8, i: usize, cell: Cell) -> bool
     ensures { (col : List ACell) → IsInMenu ex.now i col → cell_in col v ≡ cell → result
         ≡ words.menu_starts ex.now v i }
 {
-    let shapes = shapes_of(species_of(ex, v), bar_of(i), ex.bars);
-    if !allows(shapes, slot_of(i), START) {
-        return false;
-    }
     match cell {
         Cell::Start(_) => true,
-        Cell::Hold(_) => is_open(ex, v, i) || menu_starts(ex, v, i),
+        Cell::Hold(pitch) => may_start_anew(ex, v, i, pitch),
         Cell::Rest => menu_starts(ex, v, i),
     }
 }
