@@ -264,7 +264,25 @@ pub(crate) fn with_late(set: RuleSet, ex: &Exercise, next: &State) -> RuleSet
     broken
 }
 
-/// What the newest column settles of the prices of all late rules.
+/// What the newest column settles of the prices of all late rules, each asked.
+fn prices_of_all_late(ex: &Exercise, next: &State) -> u64
+    requires valid { IsValid ex.now }
+    requires begun { 0 < next.now.newest.len }
+    requires room { next.now.newest.len ≤ columns_in ex.now }
+    ensures value { TellsOfNewest ex.now next.now (λ p col. sum_by (steps.prices_late ex.now p col)
+        late_rules) result }
+    ensures bound { result ≤ 17280000 }
+{
+    let mut sum = 0u64;
+    for rule in every_late_rule() {
+        let prices = prices_of_late(*rule, ex, next);
+        sum += prices;
+    }
+    sum
+}
+
+/// The same. Where nothing is relaxed none is asked.
+#[inline(always)]
 pub(crate) fn late_prices(ex: &Exercise, next: &State) -> u64
     requires valid { IsValid ex.now }
     requires begun { 0 < next.now.newest.len }
@@ -276,10 +294,5 @@ pub(crate) fn late_prices(ex: &Exercise, next: &State) -> u64
     if ex.relax.as_slice().is_empty() {
         return 0;
     }
-    let mut sum = 0u64;
-    for rule in every_late_rule() {
-        let prices = prices_of_late(*rule, ex, next);
-        sum += prices;
-    }
-    sum
+    prices_of_all_late(ex, next)
 }

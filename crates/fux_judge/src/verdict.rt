@@ -73,7 +73,25 @@ fn broken_of(rules: &[u8], m: &Moment<'_>) -> RuleSet
     set
 }
 
-/// The prices of the relaxed breaks of these rules. Where nothing is relaxed none is asked.
+/// The prices of the relaxed breaks of these rules, each asked.
+fn prices_of_each(rules: &[u8], m: &Moment<'_>) -> u64
+    requires numbers { IsTrue (list_all (λ rule. nat_lt rule 32 && not (is_late rule)) rules.now) }
+    requires readable { IsReadable m.now }
+    requires few { length rules.now ≤ 32 }
+    ensures value { (p : List (List ACell)) → IsAfter p m.now → result
+        ≡ sum_by (λ rule. prices_then all_sets rule p m.now) rules.now }
+    ensures bound { result ≤ 1920000 }
+{
+    let mut sum = 0u64;
+    for rule in rules {
+        let price = prices_now(*rule, m);
+        sum += price;
+    }
+    sum
+}
+
+/// The same. Where nothing is relaxed none is asked.
+#[inline(always)]
 fn prices_of(rules: &[u8], m: &Moment<'_>) -> u64
     requires numbers { IsTrue (list_all (λ rule. nat_lt rule 32 && not (is_late rule)) rules.now) }
     requires readable { IsReadable m.now }
@@ -85,12 +103,7 @@ fn prices_of(rules: &[u8], m: &Moment<'_>) -> u64
     if m.exercise.relax.as_slice().is_empty() {
         return 0;
     }
-    let mut sum = 0u64;
-    for rule in rules {
-        let price = prices_now(*rule, m);
-        sum += price;
-    }
-    sum
+    prices_of_each(rules, m)
 }
 
 /// The moment at which a column comes after a state's prefix.

@@ -1,13 +1,10 @@
-use Rattle.std.proofs.Common.{◌≡◌, ◌+◌, ℕ, [], take, ap, sym, ◌∙◌, arith}
-use Rattle.std.specs.List.{sum_by}
+use Rattle.std.proofs.Common.{◌≡◌, [], sym, ◌∙◌}
 use Rattle.std.proofs.lemmas.Bool.{eqb-true}
 use Rattle.std.proofs.lemmas.List.{nil_from_length}
-use Rattle.std.proofs.lemmas.List.Sums.{sum_by_more}
 use Rattle.rule_law.specs.Growth.{sum_by-none}
 use Rattle.fux_judge.specs.Rules.{all_sets}
 use Rattle.fux_judge.specs.Moments.{prices_then}
 use Rattle.fux_judge.proofs.SetLemmas.{nothing_relaxed}
-use Rattle.fux_judge.proofs.SumLemmas.{rule_in_range}
 use Rattle.fux_judge.proofs.verdict.prices_of.Goals as goal
 
 pub returns-then-is_empty-clause-value : goal.returns-then-is_empty-clause-value
@@ -17,18 +14,3 @@ returns-then-is_empty-clause-value c = λ p after.
     (eqb-true _ 0 (sym c.is_empty.ensures ∙ c.if-is_empty.true)) in
     sym (sum_by-none (λ rule. prices_then all_sets rule p c.args.m.now) c.args.rules.now
     (λ rule. sym (nothing_relaxed rule p c.args.m.now none)))
-
-pub prices_now-price-requires-clause-rule : goal.prices_now-price-requires-clause-rule
-prices_now-price-requires-clause-rule c =
-    (rule_in_range c.args.rules.now c.loop-rule.rule-index c.requires.numbers (omega arith)).1
-
-pub loop-rule-preserved : goal.loop-rule-preserved
-loop-rule-preserved c = record {
-  value = λ p after.
-      let price : ℕ → ℕ = λ rule. prices_then all_sets rule p c.args.m.now in
-      ap (λ n. n + c.prices_now-price.result) (c.loop-rule.invariant.value p after)
-      ∙ ap (λ n. sum_by price (take c.loop-rule.rule-index c.args.rules.now) + n)
-      (c.prices_now-price.ensures.value p after)
-      ∙ sym (sum_by_more price c.args.rules.now c.loop-rule.rule-index 0 (omega arith));
-  small = omega (arith, c.prices_now-price.ensures.bound);
-}

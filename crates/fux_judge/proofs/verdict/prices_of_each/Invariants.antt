@@ -3,7 +3,7 @@ use Rattle.std.specs.List.{sum_by}
 use Rattle.fux_grid.specs.declared.cell.Cell.{Cell}
 use Rattle.fux_judge.specs.Rules.{all_sets}
 use Rattle.fux_judge.specs.Moments.{IsAfter, prices_then}
-use Rattle.fux_judge.proofs.verdict.prices_of.Given as goal
+use Rattle.fux_judge.proofs.verdict.prices_of_each.Given as goal
 
 abbrev pub invariant-loop-rule : goal.invariant-loop-rule
 invariant-loop-rule l = record {

@@ -3,7 +3,7 @@ use Rattle.std.specs.List.{sum_by}
 use Rattle.fux_grid.specs.declared.cell.Cell.{Cell}
 use Rattle.fux_judge.specs.States.{HasCome}
 use Rattle.fux_judge.specs.Steps.{prices_late}
-use Rattle.fux_judge.proofs.late.late_prices.Given as goal
+use Rattle.fux_judge.proofs.late.prices_of_all_late.Given as goal
 
 abbrev pub invariant-loop-rule : goal.invariant-loop-rule
 invariant-loop-rule l = record {
