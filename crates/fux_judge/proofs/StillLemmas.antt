@@ -141,12 +141,12 @@ module _ (ex : Exercise) (p : List (List Cell)) (col : List Cell) (room : length
       none v = ap (menu_starts ex v) (length-cells p v) ∙ still.none v
 
   -- what the gauges keep stays
-  pub gauges_still : (voices : List LineGauges) → AreGaugesOf (reverse p) voices
-      → AreGaugesOf (reverse (p ++ col ∷ [])) voices
-  gauges_still voices are = λ v kept is.
+  pub gauges_still : (voices : List LineGauges) → AreGaugesOf ex (reverse p) voices
+      → AreGaugesOf ex (reverse (p ++ col ∷ [])) voices
+  gauges_still voices are = λ v kept free is.
       let Gauged : List Cell → Type 0 = λ cells. IsGaugesOf cells kept in
       subst Gauged (sym (cells-more p col v))
-      (more (cell_in col v) (cells_of_voice p v) kept (cells_rest ex (length p) still col menu v) (are v kept is))
+      (more (cell_in col v) (cells_of_voice p v) kept (cells_rest ex (length p) still col menu v) (are v kept free is))
     where
       more : (c : Cell) (cells : List Cell) (kept : LineGauges) → starts c ≡ false → IsGaugesOf cells kept
           → IsGaugesOf (c ∷ cells) kept

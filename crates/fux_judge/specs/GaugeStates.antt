@@ -1,5 +1,5 @@
 -- What a state knows of the lines for the gauges, and of the columns ahead of them.
-use Rattle.std.specs.Prelude.{◌≡◌, ℕ, ◌+◌, ◌-◌, ◌<◌, ◌≤◌, pos, true, false, List, Some, length, slice_get}
+use Rattle.std.specs.Prelude.{◌≡◌, ℕ, ◌+◌, ◌-◌, ◌<◌, ◌≤◌, pos, true, false, List, [], Some, length, slice_get}
 use Rattle.fux_grid.specs.declared.cell.Cell.{Cell}
 use Rattle.fux_grid.specs.declared.exercise.Exercise.{Exercise}
 use Rattle.fux_grid.specs.Cells.{cell_in}
@@ -21,10 +21,14 @@ pub record IsGaugesOf (cells : List Cell) (kept : LineGauges) : Type 0 where
   pub leaps : IsLeapsOf (pitches cells) kept.leaps
   pub strikes : IsStrikesOf (pitches cells) kept.strikes
 
--- of each voice's line in a history of columns
-abbrev pub AreGaugesOf : List (List Cell) → List LineGauges → Type 0
-AreGaugesOf behind voices =
-    (v : ℕ) (kept : LineGauges) → slice_get voices v ≡ Some kept → IsGaugesOf (line v behind) kept
+-- of each free voice's line in a history of columns
+abbrev pub AreGaugesOf : Exercise → List (List Cell) → List LineGauges → Type 0
+AreGaugesOf ex behind voices =
+    (v : ℕ) (kept : LineGauges) → IsFree ex v → slice_get voices v ≡ Some kept → IsGaugesOf (line v behind) kept
+
+-- each is of a line without cells
+abbrev pub AreUngauged : List LineGauges → Type 0
+AreUngauged voices = (v : ℕ) (kept : LineGauges) → slice_get voices v ≡ Some kept → IsGaugesOf [] kept
 
 -- from column i on: the starts ahead of the voice, the last bar's place for a note above a lower
 -- key, and a key above which no column has one

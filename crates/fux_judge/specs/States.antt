@@ -23,7 +23,7 @@ pub record IsPastOf (ex : Exercise) (p : List (List Cell)) (past : Past) : Type 
 pub record IsStateOf (ex : Exercise) (p : List (List Cell)) (state : State) : Type 0 where
   pub newest : AreNewestOf ex.voices p state.newest
   pub past : IsPastOf ex p state.past
-  pub gauges : AreGaugesOf (reverse p) state.gauges
+  pub gauges : AreGaugesOf ex (reverse p) state.gauges
   pub ahead : AreAheadOf ex p state.ahead
 
 -- the state is of a prefix with one column more, which was orderly before it

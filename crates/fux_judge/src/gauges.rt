@@ -2,15 +2,15 @@
 
 ghost use Rattle.std.specs.Prelude.{◌≡◌, ◌≤◌, ◌<◌, ◌+◌, ◌*◌, ◌∷◌, [], List, length};
 ghost use Rattle.fux_grid.specs.declared.cell.Cell.{Cell as ACell};
-ghost use Rattle.fux_grid.specs.Exercises.{IsValid, columns_in};
+ghost use Rattle.fux_grid.specs.Exercises.{IsFree, IsValid, columns_in};
 ghost use Rattle.fux_judge.specs.Gauges as gauges_words;
 ghost use Rattle.fux_judge.specs.Gauges.{cells_of_voice};
-ghost use Rattle.fux_judge.specs.GaugeStates.{AreGaugesOf, IsGaugesOf};
+ghost use Rattle.fux_judge.specs.GaugeStates.{AreGaugesOf, AreUngauged, IsGaugesOf};
 
 use fux_grid::{Cell, Exercise, Score, cell_of};
 use melody_rules::{Climax, Compass, Leaps, Q17, Q18, Q19, Q20, Strikes, is_narrow, leap_excess};
 use penalty_sheet::{Sheet, weight};
-use rule_law::Gauge;
+use rule_law::{Gauge, is_free};
 
 /// What the gauges keep of a line.
 #[derive(Clone, Copy, Debug, PartialEq, Eq)]
@@ -35,7 +35,7 @@ fn ungauged() -> LineGauges
 
 /// Of no columns.
 pub(crate) fn all_ungauged() -> [LineGauges; 4]
-    ensures { AreGaugesOf [] result }
+    ensures { AreUngauged result }
 {
     [ungauged(), ungauged(), ungauged(), ungauged()]
 }
@@ -59,15 +59,30 @@ fn gauge(ex: &Exercise, v: u8, i: usize, kept: &mut LineGauges, cell: Cell)
     }
 }
 
-/// Takes in one column more of all lines, column `i`. A line that has no cell in it stays.
+/// Takes in one cell more of the line of a voice, where it is free; nothing is meant of another.
+#[inline(always)]
+fn gauge_if_free(ex: &Exercise, v: u8, i: usize, kept: &mut LineGauges, cell: Cell)
+    requires valid { IsValid ex.now }
+    requires place { i < columns_in ex.now }
+    ensures { (cells : List ACell) → length cells ≡ i → IsFree ex.now v → IsGaugesOf cells kept.old
+        → IsGaugesOf (cell ∷ cells) kept.new }
+{
+    if !is_free(ex, v) {
+        return;
+    }
+    gauge(ex, v, i, kept, cell);
+}
+
+/// Takes in one column more of the lines of free voices, column `i`. A line that has no cell in it
+/// stays.
 pub(crate) fn gauge_all(ex: &Exercise, i: usize, kept: &mut [LineGauges; 4], column: &[Cell])
     requires valid { IsValid ex.now }
     requires place { i < columns_in ex.now }
-    ensures { (behind : List (List ACell)) → length behind ≡ i → AreGaugesOf behind kept.old
-        → AreGaugesOf (column.now ∷ behind) kept.new }
+    ensures { (behind : List (List ACell)) → length behind ≡ i → AreGaugesOf ex.now behind kept.old
+        → AreGaugesOf ex.now (column.now ∷ behind) kept.new }
 {
     for v in 0..column.len().min(4) {
-        gauge(ex, v as u8, i, &mut kept[v], cell_of(column, v));
+        gauge_if_free(ex, v as u8, i, &mut kept[v], cell_of(column, v));
     }
 }
 

@@ -21,12 +21,12 @@ returns-clause-value c = λ p st prefix.
     let small : v < 4 = omega (arith, c.requires.voice, c.requires.valid.most_voices) in
     let four : length state.gauges ≡ 4 = search rules in
     let four_ahead : length state.ahead ≡ 4 = search rules in
-    let Lines : ℕ → LineGauges → Type 0 = λ v kept. IsGaugesOf (line v (reverse p)) kept in
+    let Lines : ℕ → LineGauges → Type 0 = λ v kept. IsFree ex v → IsGaugesOf (line v (reverse p)) kept in
     let Ahead : ℕ → LineAhead → Type 0 = λ v ahead. IsFree ex v → IsAheadOf ex v (length p) ahead in
     let none : LineAhead = record { starts = 0; last_high = 0; highest = 0 } in
     let Behind : ℕ → Type 0 = λ n. IsAheadOf ex v n (get_or state.ahead v none) in
     c.least_of_line.ensures.value (cells_of_voice p v) (length-cells p v ∙ sym st.newest.count)
-    (one_of_four Lines state.gauges v _ st.gauges four small)
+    (one_of_four Lines state.gauges v _ (λ v x has free. st.gauges v x free has) four small is)
     (subst Behind (sym st.newest.count) (one_of_four Ahead state.ahead v none
     (λ v x has free. st.ahead c.requires.valid prefix v x free has) four_ahead small is))
     ∙ sym (ap (λ b. if b then least_of_line ex c.args.sheet.now v (cells_of_voice p v) else 0) free)

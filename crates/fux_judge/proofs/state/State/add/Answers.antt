@@ -14,7 +14,7 @@ returns-clause-state c = λ p st.
     let same : cells ≡ col = c.as_slice-cells.ensures.value in
     let full : c.args.ex.now.voices ≡ length cells = sym c.requires.full ∙ sym (ap length same) in
     let Newest : List Cell → Type 0 = λ x. AreNewestOf c.args.ex.now.voices (p ++ x ∷ []) c.push.new.self in
-    let Gauges : List (List Cell) → Type 0 = λ h. AreGaugesOf h c.gauge_all.new.kept in
+    let Gauges : List (List Cell) → Type 0 = λ h. AreGaugesOf c.args.ex.now h c.gauge_all.new.kept in
     let Ahead : List Cell → Type 0 = λ x. AreAheadOf c.args.ex.now (p ++ x ∷ []) c.pass_all.new.ahead in
     let Parts : List Cell → Type 0 = λ x. IsPastOf c.args.ex.now (p ++ x ∷ []) c.note.new.self in
     record {
