@@ -15,7 +15,7 @@ use Rattle.fux_grid.proofs.Combinations.{AllPairs-place, IsColumnBefore}
 use Rattle.fux_grid.proofs.OrderLemmas.{column_order-itself}
 use Rattle.rule_law.specs.Law.{below_from_test}
 use Rattle.fux_judge.specs.Always.{IsSound}
-use Rattle.species_space.specs.Blocks.{AreAlwaysDead, HasOneWidth, IsBlockEnd, IsNext, IsOnlyHolds, IsWithoutHolds, KeepsCell, SkipDead, same_cell}
+use Rattle.species_space.specs.Blocks.{AreAlwaysDead, AreHeldFirst, HasOneWidth, IsBlockEnd, IsNext, IsOnlyHolds, IsWithoutHolds, KeepsCell, SkipDead, same_cell}
 
 -- ---- blocks
 
@@ -71,17 +71,33 @@ columns_alike before c d long holds its_holds follows its =
     ∙ holds_alike (cell_in before v) (cell_in c v) (cell_in d v) (follows v) (its v) (holds v lt) (its_holds v there)
     ∙ sym (get_or_default d v x Rest there))
 
--- at a menu of holds only one column follows
+-- of the columns of holds in a menu only one follows
+one_held_follows : (menu : List (List Cell)) (before : List Cell) (j k : ℕ) → IsOnlyHolds (slice_index_or menu j [])
+    → IsOnlyHolds (slice_index_or menu k []) → IsAscending menu → HasOneWidth menu → j < length menu → k < length menu
+    → ColumnFollows before (slice_index_or menu j []) → ColumnFollows before (slice_index_or menu k []) → j ≡ k
+one_held_follows menu before j k held its_held order full a b follows its =
+    AllPairs-place IsColumnBefore menu order (λ c h. apart (column_order-itself c) h) j k [] a b
+    (columns_alike before (slice_index_or menu j []) (slice_index_or menu k []) (full.1 j [] a ∙ sym (full.1 k [] b))
+    (λ v few. held v Rest few) (λ v few. its_held v Rest few) follows its)
+  where
+    apart : {o : Ordering} → o ≡ Equal → o ≡ Less → ⊥
+    apart e h = let f : Equal ≡ Less = sym e ∙ h in absurd (cc)
+
+-- so only one does in a menu of holds
 pub only_one_follows : (menu : List (List Cell)) (before : List Cell) (j k : ℕ) → All IsOnlyHolds menu
     → IsAscending menu → HasOneWidth menu → j < length menu → k < length menu
     → ColumnFollows before (slice_index_or menu j []) → ColumnFollows before (slice_index_or menu k []) → j ≡ k
 only_one_follows menu before j k held order full a b follows its =
-    AllPairs-place IsColumnBefore menu order (λ c h. apart (column_order-itself c) h) j k [] a b
-    (columns_alike before (slice_index_or menu j []) (slice_index_or menu k []) (full.1 j [] a ∙ sym (full.1 k [] b))
-    (λ v few. held j [] a v Rest few) (λ v few. held k [] b v Rest few) follows its)
-  where
-    apart : {o : Ordering} → o ≡ Equal → o ≡ Less → ⊥
-    apart e h = let f : Equal ≡ Less = sym e ∙ h in absurd (cc)
+    one_held_follows menu before j k (held j [] a) (held k [] b) order full a b follows its
+
+-- and of the columns of holds that begin a menu no other than one that does
+pub no_other_held : (menu : List (List Cell)) (before : List Cell) (held hint : ℕ) → AreHeldFirst menu held
+    → IsAscending menu → HasOneWidth menu → hint < held → hint < length menu
+    → ColumnFollows before (slice_index_or menu hint []) → (k : ℕ) → k < held → k < length menu → (k ≡ hint → ⊥)
+    → ColumnFollows before (slice_index_or menu k []) → ⊥
+no_other_held menu before held hint first order full early there follows k lower within other its =
+    other (one_held_follows menu before k hint (first k lower within) (first hint early there) order full within there
+    its follows)
 
 -- ---- columns without holds
 

@@ -34,6 +34,10 @@ KeepsCell menu v size = (k : ℕ) → k < length menu → cell_in (slice_index_o
 abbrev pub IsOnlyHolds : List Cell → Type 0
 IsOnlyHolds = All (λ c. IsTrue (is_hold c))
 
+-- each of the first columns of a menu is such
+abbrev pub AreHeldFirst : List (List Cell) → ℕ → Type 0
+AreHeldFirst menu held = (k : ℕ) → k < held → k < length menu → IsOnlyHolds (slice_index_or menu k [])
+
 -- no cell of a column is a hold
 abbrev pub IsWithoutHolds : List Cell → Type 0
 IsWithoutHolds = All (λ c. IsTrue (not (is_hold c)))
@@ -51,6 +55,7 @@ pub record AreBlocksOf (menu : List (List Cell)) (blocks : Blocks) : Type 0 wher
   pub kept : (v : ℕ) → v < 4 → KeepsCell menu v (slice_index_or blocks.lengths v 0)
   pub holds : IsTrue blocks.only_holds → All IsOnlyHolds menu
   pub no_holds : IsTrue blocks.without_holds → All IsWithoutHolds menu
+  pub held : AreHeldFirst menu blocks.held
 
 -- the columns that are looked at
 abbrev pub columns_seen : MenuView → List (List Cell)
@@ -78,6 +83,11 @@ pub record IsNext (menu : List (List Cell)) (before : List Cell) (from next : �
   pub within : next ≤ length menu
   pub follows : next < length menu → ColumnFollows before (slice_index_or menu next [])
   pub passed : (k : ℕ) → from ≤ k → k < next → ColumnFollows before (slice_index_or menu k []) → ⊥
+
+-- from a number on up to another no column may follow
+abbrev pub ArePassedOver : List (List Cell) → List Cell → ℕ → ℕ → Type 0
+ArePassedOver menu before from to =
+    (k : ℕ) → from ≤ k → k < to → ColumnFollows before (slice_index_or menu k []) → ⊥
 
 -- from a number on up to this end, the columns have the same cells in so many of the lowest voices
 pub record Agree (menu : List (List Cell)) (voices k end : ℕ) : Type 0 where

@@ -7,7 +7,7 @@ ghost use Rattle.fux_grid.specs.Columns.{ColumnFollows};
 ghost use Rattle.fux_grid.specs.Grid.{items_of};
 ghost use Rattle.fux_grid.specs.Menus.{IsAscending};
 ghost use Rattle.rule_law.specs.Bars.{begins_bar};
-ghost use Rattle.species_space.specs.Blocks.{Agree, AreAlike, AreBlocksOf, HasOneWidth, IsNumberAt, IsBlockEnd, IsCut, IsHeldNext, IsNext, IsOnlyHolds, IsWithoutHolds, KeepsCell, columns_seen, same_cell};
+ghost use Rattle.species_space.specs.Blocks.{Agree, AreAlike, AreBlocksOf, AreHeldFirst, ArePassedOver, HasOneWidth, IsNumberAt, IsBlockEnd, IsCut, IsHeldNext, IsNext, IsOnlyHolds, IsWithoutHolds, KeepsCell, columns_seen, same_cell};
 
 use fux_grid::{Cell, Column, cell_of, cells_follow};
 use rule_law::{RuleSet, begins_bar};
@@ -22,6 +22,8 @@ pub struct Blocks {
     pub(crate) only_holds: bool,
     /// Whether no cell of any column is a hold.
     without_holds: bool,
+    /// How many columns at the beginning of the menu have holds alone.
+    held: u16,
 }
 
 /// What is known of a menu beside its columns.
@@ -60,6 +62,7 @@ impl Blocks {
             ],
             only_holds: are_holds(columns),
             without_holds: are_without_holds(columns),
+            held: held_first(columns),
         }
     }
 }
@@ -74,8 +77,8 @@ impl<'a> MenuView<'a> {
     }
 
     /// The first column, from this number on, that may follow; the menu's length where there is
-    /// none. Where nothing is held all may follow. At a column of holds at most one may follow, and
-    /// the hint is tried first.
+    /// none. Where nothing is held all may follow. Of the columns of holds that begin the menu at
+    /// most one may follow, and the hint is tried first.
     pub fn next_that_follows(&self, before: &[Cell], from: usize, hint: usize) -> usize
         requires cut { IsCut self.now }
         requires within { from ≤ length (columns_seen self.now) }
@@ -85,12 +88,56 @@ impl<'a> MenuView<'a> {
             return from;
         }
         if !self.is_held(before, hint) {
-            return self.next_in_blocks(before, from);
+            let start = self.past_holds(before, from, hint);
+            return self.next_in_blocks(before, start);
         }
         if from > hint {
             return self.len();
         }
         hint
+    }
+
+    /// The number of the column of holds that goes on with what a column of the menu before sounds,
+    /// where that menu has the same pitches, and its columns of holds come first: a guess.
+    #[inline]
+    pub(crate) fn guess(&self, number: usize) -> usize {
+        let held = self.blocks.held as usize;
+        if number < held { number } else { number - held }
+    }
+
+    /// Whether the column of a number may follow.
+    #[inline]
+    fn may_follow(&self, before: &[Cell], k: usize) -> bool
+        requires { k < length (columns_seen self.now) }
+        ensures { IsTrue result → ColumnFollows before.now
+            (slice_index_or (columns_seen self.now) k []) }
+    {
+        cells_follow(before, self.column(k).as_slice())
+    }
+
+    /// A number from this one on before which no column may follow: of the columns of holds that
+    /// begin the menu at most one may, the hint's where it does.
+    fn past_holds(&self, before: &[Cell], from: usize, hint: usize) -> usize
+        requires cut { IsCut self.now }
+        requires within { from ≤ length (columns_seen self.now) }
+        ensures onward { from ≤ result }
+        ensures within { result ≤ length (columns_seen self.now) }
+        ensures passed { ArePassedOver (columns_seen self.now) before.now from result }
+    {
+        let held = (self.blocks.held as usize).min(self.len());
+        if from >= held {
+            return from;
+        }
+        if hint >= held {
+            return from;
+        }
+        if !self.may_follow(before, hint) {
+            return from;
+        }
+        if from <= hint {
+            return hint;
+        }
+        held
     }
 
     /// The number of the first column, from this one on, that isn't dead after every prefix.
@@ -315,6 +362,19 @@ fn are_holds(columns: &[Column]) -> bool
     columns
         .iter()
         .all(|column| is_held_column(column.as_slice()))
+}
+
+/// How many columns begin a menu with holds alone.
+fn held_first(columns: &[Column]) -> u16
+    requires { length columns.now ≤ 8192 }
+    ensures { AreHeldFirst (items_of columns.now) result }
+{
+    for k in 0..columns.len() {
+        if !is_held_column(column_at(columns, k).as_slice()) {
+            return k as u16;
+        }
+    }
+    columns.len() as u16
 }
 
 /// Whether no cell of a column is a hold.

@@ -158,6 +158,7 @@ fn next_held<R: Rests>(
     node: &Node,
     menu: &MenuView<'_>,
     before: &[Cell],
+    hint: usize,
     from: usize,
     best: Option<u64>,
 ) -> usize
@@ -166,7 +167,7 @@ fn next_held<R: Rests>(
     requires node { IsInner (IsNodeOf exercise.now sheet.now node.now) (columns_in exercise.now) }
     requires menu { IsViewOf exercise.now node.now.state.newest.len menu.now }
     requires before { ComesBefore exercise.now node.now before.now }
-    requires held { IsHeldNext menu.now before.now node.now.hint }
+    requires held { IsHeldNext menu.now before.now hint }
     requires inner { begins_bar node.now.state.newest.len ≡ false }
     requires within { from ≤ length (columns_seen menu.now) }
     ensures onward { from ≤ result }
@@ -175,7 +176,6 @@ fn next_held<R: Rests>(
     ensures told { result < length (columns_seen menu.now)
         → IsToldIn exercise.now node.now menu.now result }
 {
-    let hint = node.hint;
     if from > hint {
         return menu.len();
     }
@@ -225,10 +225,11 @@ pub(crate) fn next_unpruned<R: Rests>(
         → IsToldIn exercise.now node.now menu.now result }
 {
     let before = node.state.before(exercise);
-    if menu.goes_on(node.state.newest.len, before, node.hint) {
-        return next_held(exercise, sheet, rests, node, menu, before, from, best);
+    let hint = menu.guess(node.hint);
+    if menu.goes_on(node.state.newest.len, before, hint) {
+        return next_held(exercise, sheet, rests, node, menu, before, hint, from, best);
     }
-    let mut k = next_choice(menu, before, from, node.hint);
+    let mut k = next_choice(menu, before, from, hint);
     let mut tried = alike_before(menu, from, k);
     while k < menu.len() {
         let passed = passed_over(exercise, sheet, rests, node, menu, k, tried, best);
@@ -236,7 +237,7 @@ pub(crate) fn next_unpruned<R: Rests>(
             return k;
         };
         let last = k;
-        k = next_choice(menu, before, end, node.hint);
+        k = next_choice(menu, before, end, hint);
         tried = menu.lowest_alike(last, k).min(sound);
     }
     k

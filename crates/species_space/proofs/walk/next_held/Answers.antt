@@ -19,15 +19,15 @@ may_be_better-requires-clause-valid g c =
 pub may_be_better-requires-clause-number : goal.may_be_better-requires-clause-number
 may_be_better-requires-clause-number g c =
     let i = c.args.node.now.state.newest.len in
-    let within = subst (λ menu. c.args.node.now.hint < length menu) c.requires.menu.columns c.requires.held.0 in
-    subst (λ (t : Task). c.args.node.now.hint < length (menu_of t.exercise i)) (sym c.requires.rests) within
+    let within = subst (λ menu. c.args.hint < length menu) c.requires.menu.columns c.requires.held.0 in
+    subst (λ (t : Task). c.args.hint < length (menu_of t.exercise i)) (sym c.requires.rests) within
 
 pub returns-then-from-hint-clause-passed : goal.returns-then-from-hint-clause-passed
 returns-then-from-hint-clause-passed g c = λ path at j le lt.
     let held = c.requires.held in
     let cut = c.requires.menu.cut in
     other_no_better c.args.exercise.now c.args.sheet.now c.args.node.now path at (columns_seen c.args.menu.now)
-    c.args.node.now.hint j g.R.Rests.chained c.args.best c.args.before.now c.requires.menu.columns
+    c.args.hint j g.R.Rests.chained c.args.best c.args.before.now c.requires.menu.columns
     (c.requires.before _ at.state) (cut.holds held.1) cut.order cut.full held.0 held.2
     (omega (arith, lt, c.len.ensures)) (λ same. omega (arith, same, le, c.if-from-hint.true))
 
@@ -35,7 +35,7 @@ pub returns-then-not-may_be_better-clause-passed : goal.returns-then-not-may_be_
 returns-then-not-may_be_better-clause-passed g c = λ path at j le lt.
     let held = c.requires.held in
     let cut = c.requires.menu.cut in
-    let hint = c.args.node.now.hint in
+    let hint = c.args.hint in
     let P : Task → Type 0 = λ t. (other : List ℕ) → IsNodeOf t.exercise t.sheet c.args.node.now other
     → IsNoBetter g.R.Rests.chained t.exercise t.sheet other c.args.best hint in
     let here : IsNoBetter g.R.Rests.chained c.args.exercise.now c.args.sheet.now path c.args.best hint =
@@ -55,7 +55,7 @@ returns-clause-passed g c = λ path at j le lt.
     let held = c.requires.held in
     let cut = c.requires.menu.cut in
     other_no_better c.args.exercise.now c.args.sheet.now c.args.node.now path at (columns_seen c.args.menu.now)
-    c.args.node.now.hint j g.R.Rests.chained c.args.best c.args.before.now c.requires.menu.columns
+    c.args.hint j g.R.Rests.chained c.args.best c.args.before.now c.requires.menu.columns
     (c.requires.before _ at.state) (cut.holds held.1) cut.order cut.full held.0 held.2
     (omega (arith, lt, held.0)) (λ same. omega (arith, same, lt))
 
@@ -72,9 +72,9 @@ returns-then-not-may_be_better-clause-told g c = λ lt.
 pub returns-clause-told : goal.returns-clause-told
 returns-clause-told g c = λ lt.
     let held = c.requires.held in
-    let col = slice_index_or (columns_seen c.args.menu.now) c.args.node.now.hint [] in
+    let col = slice_index_or (columns_seen c.args.menu.now) c.args.hint [] in
     record {
       kept = held_told c.args.exercise.now c.args.node.now.state col c.requires.inner
-          (c.requires.menu.cut.holds held.1 c.args.node.now.hint [] lt);
+          (c.requires.menu.cut.holds held.1 c.args.hint [] lt);
       follows = λ p is. subst (λ (b : List Cell). ColumnFollows b col) (c.requires.before p is) held.2;
     }

@@ -23,4 +23,5 @@ returns c =
           c.block_length-2.ensures.kept c.block_length-3.ensures.kept c.block_length-4.ensures.kept;
       holds = λ h. All-map IsOnlyHolds (λ col. col.items) columns (c.are_holds.ensures.0 h);
       no_holds = λ h. All-map IsWithoutHolds (λ col. col.items) columns (c.are_without_holds.ensures.0 h);
+      held = c.held_first.ensures;
     }
