@@ -1,11 +1,11 @@
 -- What is read at the places of a late rule, and of a late toll.
-use Rattle.std.proofs.Common.{◌≡◌, ℕ, ◌+◌, ◌-◌, ◌*◌, ◌<◌, ◌≤◌, ◌==◌, ◌&&◌, ◌||◌, zero, suc, Bool, true, false, List, [], ◌∷◌, ◌++◌, length, refl, ap, sym, ◌∙◌, true≢false, arith}
+use Rattle.std.proofs.Common.{◌≡◌, ℕ, ◌+◌, ◌-◌, ◌*◌, ◌<◌, ◌≤◌, ◌==◌, ◌&&◌, ◌||◌, zero, suc, Bool, true, false, List, [], ◌∷◌, ◌++◌, length, refl, ap, sym, ◌∙◌, subst, true≢false, arith}
 use Rattle.std.specs.Prelude.{if◌then◌else◌}
 use Rattle.std.specs.List.{list_all, list_any, sum_by}
 use Rattle.std.proofs.lemmas.List.{length-append}
 use Rattle.fux_grid.specs.declared.cell.Cell.{Cell}
 use Rattle.fux_grid.specs.declared.exercise.Exercise.{Exercise}
-use Rattle.std.proofs.lemmas.Bool.{eqb-true, or_left, or_right}
+use Rattle.std.proofs.lemmas.Bool.{both_ways, eqb-true, or_left, or_right}
 use Rattle.std.proofs.lemmas.Bool.Decides.{nat_tests}
 use Rattle.std.proofs.lemmas.Nat.Bits.{bit_at-zero}
 use Rattle.rule_law.specs.Growth.{any_below, newly, sum_by-none}
@@ -17,7 +17,7 @@ use Rattle.penalty_sheet.specs.declared.sheet.Sheet.{Sheet}
 use Rattle.penalty_sheet.specs.Weights.{weight_of}
 use Rattle.fux_judge.specs.declared.state.State.{State}
 use Rattle.fux_judge.proofs.Facts.{rule_keeps}
-use Rattle.fux_judge.specs.Late.{HaveNoPlace}
+use Rattle.fux_judge.specs.Late.{HaveNoPlace, SettleNothing}
 use Rattle.fux_judge.specs.Links.{other_late_tolls}
 use Rattle.fux_judge.specs.Penalties.{is_strict_at, new_price, new_toll, newly_broken_at}
 use Rattle.fux_judge.specs.Rules.{all_rules, cost_at, is_cost_settled, is_late, late_rules, late_tolls, rule_at, rules_read, toll_at, tolls_read}
@@ -90,23 +90,30 @@ pub none_idle : (ex : Exercise) (i : ℕ) → HaveNoPlace ex i 0
 none_idle ex i rule h = absurd (true≢false (sym h ∙ ap (λ n. n == 1) (bit_at-zero rule)))
 
 -- of a rule without a place nothing is settled
-pub idle_unbroken : (rule : ℕ) (ex : Exercise) (next : State) (p : List (List Cell)) (col : List Cell)
-    → HasCome ex next p col → (rule_at rule).count ex (next.newest.len - 1) ≡ 0 → false ≡ breaks_late ex p col rule
-idle_unbroken rule ex next p col come none =
-    let count : (rule_at rule).count ex (length p) ≡ 0 =
-    sym (ap ((rule_at rule).count ex) (as_far ex next p col come)) ∙ none in
-    sym (ap (λ n. any_among ((rule_at rule).first ex (length p)) n (some_at rule ex p col)) count)
+pub placeless_settle : (ex : Exercise) (i set : ℕ) → HaveNoPlace ex i set → SettleNothing ex i set
+placeless_settle ex i set none rule on p col at going =
+    let count : (rule_at rule).count ex (length p) ≡ 0 = ap ((rule_at rule).count ex) at ∙ none rule on in
+    ap (λ n. any_among ((rule_at rule).first ex (length p)) n (some_at rule ex p col)) count
 
--- a rule more in a set of rules of which each has a number of nothing
-pub one_more : (set rule more : ℕ) (on : Bool) (number : ℕ → ℕ)
-    → ((r : ℕ) → has_rule set r ≡ true → number r ≡ 0) → (on ≡ true → number rule ≡ 0)
-    → ((r : ℕ) → has_rule more r ≡ (has_rule set r || (on && r == rule)))
-    → (r : ℕ) → has_rule more r ≡ true → number r ≡ 0
-one_more set rule more on number old new is r h = at (has_rule set r) on (r == rule) refl refl refl (sym (is r) ∙ h)
+-- nor of one that the column newly breaks at none of its places
+pub none_settled : (rule : ℕ) (ex : Exercise) (p : List (List Cell)) (col : List Cell) → is_late rule ≡ true
+    → GoesOn ex p (col ∷ [])
+    → ((voices i : ℕ) → IsAmong ((rule_at rule).first ex (length p)) ((rule_at rule).count ex (length p)) i
+    → newly_breaks (rule_at rule) ex voices p col i ≡ false) → breaks_late ex p col rule ≡ false
+none_settled rule ex p col late on none =
+    sym (breaks_among rule ex p col late on 0 0 (omega arith)
+    (λ voices i h. absurd (both_ways (newly_breaks (rule_at rule) ex voices p col i)
+    (none voices i (among_places rule ex p col late on voices i h)) h)))
+
+-- what holds of the rules of a set, and of one more, holds of those of the set with it
+pub one_more : (P : ℕ → Type 0) (set rule more : ℕ) (on : Bool) → ((r : ℕ) → has_rule set r ≡ true → P r)
+    → (on ≡ true → P rule) → ((r : ℕ) → has_rule more r ≡ (has_rule set r || (on && r == rule)))
+    → (r : ℕ) → has_rule more r ≡ true → P r
+one_more P set rule more on old new is r h = at (has_rule set r) on (r == rule) refl refl refl (sym (is r) ∙ h)
   where
-    at : (a b t : Bool) → has_rule set r ≡ a → on ≡ b → (r == rule) ≡ t → (a || (b && t)) ≡ true → number r ≡ 0
+    at : (a b t : Bool) → has_rule set r ≡ a → on ≡ b → (r == rule) ≡ t → (a || (b && t)) ≡ true → P r
     at true b t e f g k = old r e
-    at false true true e f g k = ap number (eqb-true r rule g) ∙ new f
+    at false true true e f g k = subst P (sym (eqb-true r rule g)) (new f)
     at false true false e f g k = cc
     at false false t e f g k = cc
 

@@ -7,6 +7,7 @@ pub mod Ends
 pub mod Facts
 pub mod FairLemmas
 pub mod Grows
+pub mod IdleLemmas
 pub mod KeptLemmas
 pub mod LateLemmas
 pub mod LeastLaws

@@ -29,7 +29,7 @@ IsOfPool pool Rest = ⊤
 IsOfPool pool (Hold p) = Contains pool p
 IsOfPool pool (Start p) = Contains pool p
 
-chosen : {X : Type 0} (b : Bool) (xs : List X) (x : X) → Contains (if b then xs else []) x → Contains xs x
+pub chosen : {X : Type 0} (b : Bool) (xs : List X) (x : X) → Contains (if b then xs else []) x → Contains xs x
 chosen true xs x h = h
 chosen false xs x h = absurd (omega (arith, h.1))
 

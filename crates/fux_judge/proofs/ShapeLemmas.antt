@@ -17,7 +17,7 @@ use Rattle.fux_judge.specs.Penalties.{is_strict_at, newly_broken, newly_broken_a
 use Rattle.fux_judge.proofs.LateLemmas.{any_below-found}
 use Rattle.fux_judge.proofs.PruningLemmas.{some_of}
 
-shape_row_is : rule_at 3 ≡ shape_rule
+pub shape_row_is : rule_at 3 ≡ shape_rule
 unfolding rule_at
 shape_row_is = refl
 

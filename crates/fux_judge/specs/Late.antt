@@ -1,10 +1,11 @@
 -- What is told of a column that has come behind an orderly prefix, known by the state of the two
 -- alone.
-use Rattle.std.specs.Prelude.{◌≡◌, ℕ, ◌+◌, ◌<◌, ◌≤◌, ◌||◌, Bool, true, List, length}
+use Rattle.std.specs.Prelude.{◌≡◌, ℕ, ◌+◌, ◌<◌, ◌≤◌, ◌||◌, Bool, true, false, List, [], ◌∷◌, length}
 use Rattle.fux_grid.specs.declared.cell.Cell.{Cell}
 use Rattle.fux_grid.specs.declared.exercise.Exercise.{Exercise}
 use Rattle.fux_grid.specs.Columns.{Columns}
 use Rattle.fux_grid.specs.Exercises.{IsValid, columns_in}
+use Rattle.rule_law.specs.Prefixes.{GoesOn}
 use Rattle.rule_law.specs.Rulebooks.{IsAmong, newly_breaks}
 use Rattle.rule_law.specs.Voices.{has_rule}
 use Rattle.fux_judge.specs.declared.state.State.{State}
@@ -64,3 +65,12 @@ pub record AnswersFor (ex : Exercise) (next : State) (test : ℕ → Bool) : Typ
 -- no rule of the set has a place that column i may settle
 abbrev pub HaveNoPlace : Exercise → ℕ → ℕ → Type 0
 HaveNoPlace ex i set = (rule : ℕ) → has_rule set rule ≡ true → (rule_at rule).count ex i ≡ 0
+
+-- no column that comes as column i behind an orderly prefix settles a strict break of the rule
+abbrev pub SettlesNothing : Exercise → ℕ → ℕ → Type 0
+SettlesNothing ex i rule =
+    (p : Columns) (col : List Cell) → length p ≡ i → GoesOn ex p (col ∷ []) → breaks_late ex p col rule ≡ false
+
+-- so it is of each rule of the set
+abbrev pub SettleNothing : Exercise → ℕ → ℕ → Type 0
+SettleNothing ex i set = (rule : ℕ) → has_rule set rule ≡ true → SettlesNothing ex i rule

@@ -3,6 +3,7 @@ pub mod Charges
 pub mod Crates
 pub mod GaugeStates
 pub mod Gauges
+pub mod Idle
 pub mod Kept
 pub mod Late
 pub mod Lawful

@@ -6,7 +6,7 @@ ghost use Rattle.fux_grid.specs.Exercises.{IsValid, columns_in};
 ghost use Rattle.rule_law.specs.Rulebooks.{newly_breaks};
 ghost use Rattle.fux_judge.specs.Penalties.{newly_broken_at, new_price};
 ghost use Rattle.fux_judge.specs.Rules.{is_late, late_rules, rule_at};
-ghost use Rattle.fux_judge.specs.Late.{AddsLateBreaks, AnswersFor, HaveNoPlace, MayBeAsked, SettlesAmong, TellsAtPlace, TellsOfNewest, end_of_places};
+ghost use Rattle.fux_judge.specs.Late.{AddsLateBreaks, AnswersFor, HaveNoPlace, MayBeAsked, SettleNothing, SettlesAmong, TellsAtPlace, TellsOfNewest, end_of_places};
 ghost use Rattle.fux_judge.specs.Steps as steps;
 
 use crate::all_rules::{AllRules, form_of};
@@ -192,7 +192,7 @@ fn prices_of_late(rule: u8, ex: &Exercise, next: &State) -> u64
 }
 
 /// The late rules that have no place which column `i` may settle, whatever the column is.
-pub fn idle_rules(ex: &Exercise, i: usize) -> RuleSet
+pub(crate) fn without_place(ex: &Exercise, i: usize) -> RuleSet
     requires valid { IsValid ex.now }
     requires place { i < columns_in ex.now }
     ensures { HaveNoPlace ex.now i result.bits }
@@ -205,8 +205,8 @@ pub fn idle_rules(ex: &Exercise, i: usize) -> RuleSet
     idle
 }
 
-/// The question whether the newest column settles a strict break of a late rule. Of rules that are
-/// known to have no place there nothing is read.
+/// The question whether the newest column settles a strict break of a late rule. Of rules of which
+/// it is known to settle none there nothing is read.
 #[derive(Clone, Copy)]
 struct BreaksLate<'a> {
     exercise: &'a Exercise<'a>,
@@ -216,7 +216,7 @@ struct BreaksLate<'a> {
 
 impl LateQuestion for BreaksLate<'_> {
     ghost is_ready = { λ it. MayBeAsked it.exercise.now it.next.now
-        × HaveNoPlace it.exercise.now (it.next.now.newest.len - 1) it.idle.bits };
+        × SettleNothing it.exercise.now (it.next.now.newest.len - 1) it.idle.bits };
 
     ghost may_ask = { λ _. is_late };
 
@@ -231,14 +231,14 @@ impl LateQuestion for BreaksLate<'_> {
     }
 }
 
-/// Whether the newest column settles a strict break of some late rule. Of rules that are known to
-/// have no place there nothing is read.
+/// Whether the newest column settles a strict break of some late rule. Of rules of which it is
+/// known to settle none there nothing is read.
 #[inline(always)]
 pub(crate) fn settles_late_break(ex: &Exercise, idle: RuleSet, next: &State) -> bool
     requires valid { IsValid ex.now }
     requires begun { 0 < next.now.newest.len }
     requires room { next.now.newest.len ≤ columns_in ex.now }
-    requires idle { HaveNoPlace ex.now (next.now.newest.len - 1) idle.bits }
+    requires idle { SettleNothing ex.now (next.now.newest.len - 1) idle.bits }
     ensures { TellsOfNewest ex.now next.now (λ p col. list_any (steps.breaks_late ex.now p col)
         late_rules) result }
 {

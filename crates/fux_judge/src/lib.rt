@@ -6,6 +6,7 @@ mod ahead;
 mod all_rules;
 mod always;
 mod gauges;
+mod idle;
 mod kept;
 mod late;
 mod late_tolls;
@@ -29,7 +30,7 @@ mod verdict;
 mod whole;
 
 pub use always::is_always_dead;
-pub use late::idle_rules;
+pub use idle::idle_rules;
 pub use lines::least;
 pub use link::{alone_rule, column_cost, link_cost, pair_cost};
 pub use moves::{move_cost, moves_are_least, pair_cost_from};

@@ -3,7 +3,7 @@
 ghost use Rattle.std.specs.Prelude.{◌≡◌, ◌≤◌, ◌<◌, ◌+◌, true, false, IfNone, IfSome, length};
 ghost use Rattle.fux_grid.specs.Exercises.{IsValid, columns_in};
 ghost use Rattle.fux_grid.specs.Menus.{IsInMenu};
-ghost use Rattle.fux_judge.specs.Late.{HaveNoPlace};
+ghost use Rattle.fux_judge.specs.Late.{SettleNothing};
 ghost use Rattle.fux_judge.specs.Penalties.{newly_paid, settles_break};
 ghost use Rattle.fux_judge.specs.States.{IsStateOf};
 ghost use Rattle.fux_judge.specs.Still.{IsStillPlace, KeepsLeast};
@@ -31,7 +31,7 @@ pub fn step_still(
     requires valid { IsValid ex.now }
     requires room { state.now.newest.len < columns_in ex.now }
     requires full { length col.now.items ≡ ex.now.voices }
-    requires idle { HaveNoPlace ex.now state.now.newest.len idle.bits }
+    requires idle { SettleNothing ex.now state.now.newest.len idle.bits }
     requires menu { IsInMenu ex.now state.now.newest.len col.now.items }
     requires still { IsStillPlace ex.now state.now.newest.len }
     ensures state { IfSome result (λ _. Grown ex.now state.now col.now.items

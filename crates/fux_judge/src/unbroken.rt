@@ -6,7 +6,7 @@ ghost use Rattle.fux_grid.specs.Exercises.{IsValid, columns_in};
 ghost use Rattle.fux_grid.specs.Menus.{IsInMenu};
 ghost use Rattle.rule_law.specs.Voices.{has_rule};
 ghost use Rattle.fux_judge.specs.Gauges.{least_of};
-ghost use Rattle.fux_judge.specs.Late.{HaveNoPlace};
+ghost use Rattle.fux_judge.specs.Late.{SettleNothing};
 ghost use Rattle.fux_judge.specs.Links.{IsOwnCost};
 ghost use Rattle.fux_judge.specs.Rules.{rules_at_once};
 ghost use Rattle.fux_judge.specs.Penalties.{newly_paid, settles_break};
@@ -43,10 +43,10 @@ pub struct Price {
 }
 
 /// What a column that settles no strict break costs; none where it settles one, and then no more is
-/// read than tells so: nothing of late rules that are known to have no place there, and where it is
-/// told of a column of the menu what it keeps, and nothing is relaxed, of those settled at once S12
-/// alone. What its own tolls cost the column isn't asked where it is known. The state of the longer
-/// prefix is written into the place that is given.
+/// read than tells so: nothing of late rules of which it is known to settle none there, and where
+/// it is told of a column of the menu what it keeps, and nothing is relaxed, of those settled at
+/// once S12 alone. What its own tolls cost the column isn't asked where it is known. The state of
+/// the longer prefix is written into the place that is given.
 pub fn step_unbroken(
     ex: &Exercise,
     sheet: &Sheet,
@@ -60,7 +60,7 @@ pub fn step_unbroken(
     requires valid { IsValid ex.now }
     requires room { state.now.newest.len < columns_in ex.now }
     requires full { length col.now.items ≡ ex.now.voices }
-    requires idle { HaveNoPlace ex.now state.now.newest.len idle.bits }
+    requires idle { SettleNothing ex.now state.now.newest.len idle.bits }
     requires told { IsTrue told → IsToldColumn ex.now state.now col.now.items }
     requires menu { IsTrue told → IsInMenu ex.now state.now.newest.len col.now.items }
     requires own { IfSome own (IsOwnCost ex.now sheet.now state.now.newest.len col.now.items) }

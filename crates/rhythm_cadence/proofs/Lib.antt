@@ -1,8 +1,10 @@
+pub mod AlikeShapes
 pub mod AllRules
 pub mod BarReadings
 pub mod BookLaws
 pub mod CadenceReadings
 pub mod EarlierFollows
+pub mod HeldQuavers
 pub mod LateLaws
 pub mod Locality
 pub mod LowerVoices

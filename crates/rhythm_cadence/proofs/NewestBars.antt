@@ -18,13 +18,13 @@ use Rattle.rule_law.specs.Bars.{begins_bar}
 use Rattle.rhythm_cadence.specs.Parts.{shape_set, shapes_with, newest_bar, newest_columns, shapes_begun, shapes_after}
 use Rattle.rhythm_cadence.proofs.ShapeSets.{starts_with-more, shape_set-same, bit_and-shape_set}
 
-letter_is_some : (c : Cell) → 0 < letter_of c
+pub letter_is_some : (c : Cell) → 0 < letter_of c
 letter_is_some Rest = omega arith
 letter_is_some (Hold p) = omega arith
 letter_is_some (Start p) = omega arith
 
 -- the columns of the bar of column i that stand before it
-abbrev bar_before : List (List Cell) → List (List Cell)
+abbrev pub bar_before : List (List Cell) → List (List Cell)
 bar_before p = drop (8 * (length p / 8)) p
 
 length-bar_before : (p : List (List Cell)) → length (bar_before p) ≡ length p % 8
@@ -46,7 +46,7 @@ newest_bar-within p h = within (length p) h
     within : (n : ℕ) → (n % 8 ≡ 0 → ⊥) → (n - 1) / 8 + 1 ≡ n / 8 + 1
     within n h = omega arith
 
-newest_columns-within : (p : List (List Cell)) → (slot_of (length p) ≡ 0 → ⊥) → newest_columns p ≡ bar_before p
+pub newest_columns-within : (p : List (List Cell)) → (slot_of (length p) ≡ 0 → ⊥) → newest_columns p ≡ bar_before p
 newest_columns-within p h =
     let start : 8 * (length p / 8 + 1 - 1) ≡ 8 * (length p / 8) = omega arith in
     ap (bar_columns p) (newest_bar-within p h)
@@ -58,7 +58,7 @@ letters-more : (v : ℕ) (p : List (List Cell)) (col : List Cell) → letters_of
     ≡ letters_of v (bar_before p) ++ letter_of (cell_in col v) ∷ []
 letters-more v p col = ap (letters_of v) (newest_columns-more p col) ∙ letters_of-append v (bar_before p) (col ∷ [])
 
-length-letters : (v : ℕ) (p : List (List Cell)) → length (letters_of v (bar_before p)) ≡ slot_of (length p)
+pub length-letters : (v : ℕ) (p : List (List Cell)) → length (letters_of v (bar_before p)) ≡ slot_of (length p)
 length-letters v p = length-map (bar_before p) (λ col. letter_of (cell_in col v)) ∙ length-bar_before p
 
 -- a shape goes on with the letter where it begins with those before it and has the letter at the
@@ -85,7 +85,7 @@ begun-more ex v p col =
     (voice_shapes ex v (bar_of (length p))) (goes_on v p col)
 
 -- a bar that begins has no letters before
-none_before : (p : List (List Cell)) → slot_of (length p) ≡ 0 → bar_before p ≡ []
+pub none_before : (p : List (List Cell)) → slot_of (length p) ≡ 0 → bar_before p ≡ []
 none_before p h = drop_all (8 * (length p / 8)) p (whole (length p) h)
   where
     whole : (n : ℕ) → n % 8 ≡ 0 → n ≤ 8 * (n / 8)

@@ -1,5 +1,5 @@
 -- What a state keeps of the shapes of the newest bar.
-use Rattle.std.specs.Prelude.{◌≡◌, ℕ, ◌+◌, ◌-◌, ◌*◌, ◌<◌, ◌==◌, Bool, ◌&&◌, List, [], ◌∷◌, IsTrue, length, slice_index, nat_eq, bit_and, if◌then◌else◌}
+use Rattle.std.specs.Prelude.{◌≡◌, ℕ, ◌+◌, ◌-◌, ◌*◌, ◌<◌, ◌==◌, Bool, ◌&&◌, ◌||◌, List, [], ◌∷◌, IsTrue, length, slice_index, nat_eq, bit_and, if◌then◌else◌}
 use Rattle.std.specs.List.{list_all, starts_with}
 use Rattle.fux_grid.specs.declared.cell.Cell.{Cell}
 use Rattle.fux_grid.specs.declared.exercise.Exercise.{Exercise}
@@ -19,6 +19,14 @@ shape_set test (shape ∷ shapes) = (if test shape then 1 else 0) + 2 * shape_se
 -- the shapes that have a letter at a slot
 abbrev pub shapes_with : ℕ → ℕ → List (List ℕ) → ℕ
 shapes_with slot letter = shape_set (λ shape. slice_index shape slot == letter)
+
+-- each of these shapes has the letter at a slot
+abbrev pub all_have : ℕ → ℕ → List (List ℕ) → Bool
+all_have slot letter shapes = list_all (λ shape. slice_index shape slot == letter) shapes
+
+-- they have one letter there, whichever it is
+abbrev pub are_alike : ℕ → List (List ℕ) → Bool
+are_alike slot shapes = all_have slot 72 shapes || all_have slot 83 shapes || all_have slot 82 shapes
 
 -- three rows of eight sets, for the letters S, H and R: at each slot the shapes that have the
 -- letter there

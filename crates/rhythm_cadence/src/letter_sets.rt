@@ -4,7 +4,7 @@ ghost use Rattle.std.specs.Prelude.{◌≡◌, ◌<◌};
 ghost use Rattle.fux_grid.specs.Shapes.{letter_of, shapes_in};
 ghost use Rattle.rhythm_cadence.specs.Parts as parts;
 
-use fux_grid::Cell;
+use fux_grid::{Cell, HOLD, REST, START};
 
 /// Sets of bar shapes, one for each slot: those where a note starts there, where one is held, and
 /// where the voice rests. Bit k of a set is shape k of its species and bar, in the order of
@@ -155,4 +155,20 @@ pub fn fitting_shapes(species: u8, bar: u8, bars: u8, slot: usize, cell: Cell) -
         Cell::Hold(_) => sets.holds[slot],
         Cell::Rest => sets.rests[slot],
     }
+}
+
+/// Whether each of these shapes has a letter at a slot.
+pub fn all_have(shapes: &[[u8; 8]], slot: usize, letter: u8) -> bool
+    requires { slot < 8 }
+    ensures { result ≡ parts.all_have slot letter shapes.now }
+{
+    shapes.iter().all(|shape| shape[slot] == letter)
+}
+
+/// Whether they have one letter there, whichever it is.
+pub fn are_alike(shapes: &[[u8; 8]], slot: usize) -> bool
+    requires { slot < 8 }
+    ensures { result ≡ parts.are_alike slot shapes.now }
+{
+    all_have(shapes, slot, HOLD) || all_have(shapes, slot, START) || all_have(shapes, slot, REST)
 }

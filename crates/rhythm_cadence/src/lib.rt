@@ -18,7 +18,7 @@ pub use book::book_is_lawful;
 pub use cadence::{breaks_cadence, has_suspension, is_suspended, leading_slot, shows_cadence};
 pub use in_place::are_in_place;
 pub use inflections::inflection_cost;
-pub use letter_sets::{LetterSets, fitting_shapes};
+pub use letter_sets::{LetterSets, all_have, are_alike, fitting_shapes};
 pub use part::{BarShapes, leaves_last_shape, note, unbegun};
 pub use patterns::{is_pattern_settled, missing_ligatures, pattern_cost};
 pub use quavers::{breaks_quaver, is_quaver_settled, is_step_apart};

@@ -5,7 +5,7 @@ use Rattle.fux_grid.specs.declared.exercise.Exercise.{Exercise}
 use Rattle.fux_grid.specs.Exercises.{IsValid, columns_in}
 use Rattle.fux_grid.specs.Grid.{items_of}
 use Rattle.fux_grid.specs.Menus.{menu_of}
-use Rattle.fux_judge.specs.Late.{HaveNoPlace}
+use Rattle.fux_judge.specs.Late.{SettleNothing}
 use Rattle.floor_tables.specs.Tables.{AreNarrow}
 use Rattle.species_space.specs.Blocks.{AreBlocksOf, AreUndead}
 use Rattle.species_space.specs.declared.menus.Menu.{Menu}
@@ -23,7 +23,7 @@ pub record IsPlaceMenu (ex : Exercise) (menus : List Menu) (i : ℕ) (place : Pl
   pub there : place.menu < length menus
   pub menu : (d : Menu) → IsMenuOf (menu_of ex i) (slice_index_or menus place.menu d)
   pub skip : AreUndead ex i (menu_of ex i) place.undead.items
-  pub idle : HaveNoPlace ex i place.idle.bits
+  pub idle : SettleNothing ex i place.idle.bits
 
 -- the same of each of the first places
 abbrev pub ArePlaces : Exercise → List Menu → List PlaceMenu → Type 0

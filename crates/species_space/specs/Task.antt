@@ -3,7 +3,7 @@ use Rattle.std.specs.Prelude.{◌≡◌, ℕ, ◌<◌, List, length, slice_index
 use Rattle.fux_grid.specs.declared.exercise.Exercise.{Exercise}
 use Rattle.fux_grid.specs.Exercises.{IsValid, columns_in}
 use Rattle.fux_grid.specs.Menus.{menu_of}
-use Rattle.fux_judge.specs.Late.{HaveNoPlace}
+use Rattle.fux_judge.specs.Late.{SettleNothing}
 use Rattle.floor_tables.specs.Tables.{AreNarrow}
 pub use Rattle.floor_tables.specs.Tables.{Task}
 use Rattle.species_space.specs.Blocks.{AreBlocksOf, AreUndead, IsCut, columns_seen}
@@ -15,7 +15,7 @@ use Rattle.species_space.specs.declared.blocks.MenuView.{MenuView}
 pub record IsBlockMenuOf (ex : Exercise) (i : ℕ) (menu : BlockMenu) : Type 0 where
   pub blocks : AreBlocksOf (menu_of ex i) menu.blocks
   pub skip : AreUndead ex i (menu_of ex i) menu.undead.items
-  pub idle : HaveNoPlace ex i menu.idle.bits
+  pub idle : SettleNothing ex i menu.idle.bits
 
 -- the same of each of the first places
 abbrev pub AreMenus : Exercise → List BlockMenu → Type 0

@@ -33,7 +33,7 @@ pub(crate) struct BlockMenu {
     /// For each column the number of the first one, from it on, that isn't dead after every prefix.
     /// A column that has none here is its own.
     pub(crate) undead: Vec<u16>,
-    /// The late rules that have no place which the column of its place may settle.
+    /// Late rules of which the column of its place settles no strict break.
     pub(crate) idle: RuleSet,
 }
 

@@ -28,7 +28,7 @@ pub(crate) struct Menu {
 pub(crate) struct PlaceMenu {
     pub(crate) menu: usize,
     pub(crate) undead: Vec<u16>,
-    /// The late rules that have no place which the column of the place may settle.
+    /// Late rules of which the column of the place settles no strict break.
     pub(crate) idle: RuleSet,
 }
 

@@ -5,7 +5,7 @@ ghost use Rattle.fux_grid.specs.Exercises.{IsValid, columns_in};
 ghost use Rattle.fux_grid.specs.Grid.{items_of};
 ghost use Rattle.fux_grid.specs.Menus.{menu_of};
 ghost use Rattle.floor_tables.specs.Tables.{AreNarrow, TellsWidth};
-ghost use Rattle.fux_judge.specs.Late.{HaveNoPlace};
+ghost use Rattle.fux_judge.specs.Late.{SettleNothing};
 ghost use Rattle.species_space.specs.Mixed.{IsMixed, exercise_of};
 ghost use Rattle.species_space.specs.Nodes.{IsNodeOf, IsTold};
 ghost use Rattle.species_space.specs.Paths.{live_with, width_at};
@@ -91,11 +91,11 @@ impl<'a> MixedSpace<'a> {
         &self.menus.menus[self.menus.places[i].menu].columns
     }
 
-    /// The late rules that have no place which column i may settle.
+    /// Late rules of which column i settles no strict break.
     #[inline]
     fn idle(&self, i: usize) -> RuleSet
         requires { i < columns_in self.now.exercise }
-        ensures { HaveNoPlace self.now.exercise i result.bits }
+        ensures { SettleNothing self.now.exercise i result.bits }
     {
         self.menus.places[i].idle
     }

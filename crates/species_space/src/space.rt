@@ -9,7 +9,7 @@ ghost use Rattle.fux_grid.specs.Menus.{menu_of};
 ghost use Rattle.std.specs.Bool.{OnFalse};
 ghost use Rattle.species_space.specs.Blocks.{AreBlocksOf, AreSound, AreUndead};
 ghost use Rattle.floor_tables.specs.Tables.{AreNarrow, IsRest, TellsWidth};
-ghost use Rattle.fux_judge.specs.Late.{HaveNoPlace};
+ghost use Rattle.fux_judge.specs.Late.{SettleNothing};
 ghost use Rattle.fux_judge.specs.Links.{IsOwnCost};
 ghost use Rattle.fux_judge.specs.Still.{IsStillPlace};
 ghost use Rattle.species_space.specs.Grows.{paths_grow};
@@ -135,11 +135,11 @@ impl<'a> SpeciesSpace<'a> {
         }
     }
 
-    /// The late rules that have no place which column i may settle.
+    /// Late rules of which column i settles no strict break.
     #[inline]
     fn idle(&self, i: usize) -> RuleSet
         requires { i < columns_in self.now.exercise }
-        ensures { HaveNoPlace self.now.exercise i result.bits }
+        ensures { SettleNothing self.now.exercise i result.bits }
     {
         self.menus[i].idle
     }
@@ -392,9 +392,9 @@ fn follows(exercise: &Exercise, told: bool, node: &Node, column: &Column) -> boo
 }
 
 /// The floor of the child of this number and column, where the column follows and settles no strict
-/// break: what is to come behind it costs `rest` at least. Late rules that are known to have no
-/// place there aren't asked, nor what is told of the child, nor what its own tolls cost the column,
-/// where it is known. The child is written into the place that is given.
+/// break: what is to come behind it costs `rest` at least. Late rules of which it is known to
+/// settle none there aren't asked, nor what is told of the child, nor what its own tolls cost the
+/// column, where it is known. The child is written into the place that is given.
 #[inline(always)]
 pub(crate) fn child_by(
     exercise: &Exercise,
@@ -411,7 +411,7 @@ pub(crate) fn child_by(
     requires valid { IsValid exercise.now }
     requires child { HasChild (IsNodeOf exercise.now sheet.now node.now) (columns_in exercise.now)
         (width_at exercise.now) k }
-    requires idle { HaveNoPlace exercise.now node.now.state.newest.len idle.bits }
+    requires idle { SettleNothing exercise.now node.now.state.newest.len idle.bits }
     requires told { IsTrue told → IsTold exercise.now node.now k }
     requires own { IfSome own
         (IsOwnCost exercise.now sheet.now node.now.state.newest.len column.now.items) }
@@ -454,7 +454,7 @@ fn child_still(
     requires valid { IsValid exercise.now }
     requires child { HasChild (IsNodeOf exercise.now sheet.now node.now) (columns_in exercise.now)
         (width_at exercise.now) k }
-    requires idle { HaveNoPlace exercise.now node.now.state.newest.len idle.bits }
+    requires idle { SettleNothing exercise.now node.now.state.newest.len idle.bits }
     requires told { IsTrue told → IsTold exercise.now node.now k }
     requires still { IsStillPlace exercise.now node.now.state.newest.len }
     requires column { column.now.items

@@ -1,6 +1,6 @@
 use Rattle.std.proofs.Common.{◌≡◌, ℕ, ◌-◌, ◌+◌, subst, arith, length, ap, sym, ◌∙◌}
 use Rattle.fux_grid.specs.Menus.{IsInMenu}
-use Rattle.fux_judge.specs.Late.{HaveNoPlace}
+use Rattle.fux_judge.specs.Late.{SettleNothing}
 use Rattle.fux_judge.specs.Penalties.{paid}
 use Rattle.fux_judge.specs.Still.{IsStillPlace}
 use Rattle.fux_judge.proofs.Grows.{paid_grows}
@@ -10,7 +10,7 @@ use Rattle.fux_judge.proofs.still.step_still.Goals as goal
 
 pub settles_late_break-requires-clause-idle : goal.settles_late_break-requires-clause-idle
 settles_late_break-requires-clause-idle c =
-    subst (λ (i : ℕ). HaveNoPlace c.args.ex.now i c.args.idle.bits) (behind _ _ c.add_still.ensures.length) c.requires.idle
+    subst (λ (i : ℕ). SettleNothing c.args.ex.now i c.args.idle.bits) (behind _ _ c.add_still.ensures.length) c.requires.idle
   where
     behind : (n m : ℕ) → m ≡ n + 1 → n ≡ m - 1
     behind n m e = omega (arith, e)

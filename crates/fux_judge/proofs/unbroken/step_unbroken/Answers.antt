@@ -1,7 +1,7 @@
 use Rattle.std.proofs.Common.{◌≡◌, ℕ, ◌-◌, subst, arith, ◌+◌, ◌++◌, ◌∷◌, [], ap, sym, ◌∙◌}
 use Rattle.rule_law.specs.Voices.{has_rule}
 use Rattle.fux_judge.proofs.Grows.{paid_grows}
-use Rattle.fux_judge.specs.Late.{HaveNoPlace}
+use Rattle.fux_judge.specs.Late.{SettleNothing}
 use Rattle.fux_judge.specs.Links.{own_of}
 use Rattle.fux_judge.specs.Moments.{is_strictly_broken_then}
 use Rattle.fux_judge.specs.Penalties.{paid}
@@ -12,7 +12,7 @@ use Rattle.fux_judge.proofs.unbroken.step_unbroken.Goals as goal
 
 pub settles_late_break-requires-clause-idle : goal.settles_late_break-requires-clause-idle
 settles_late_break-requires-clause-idle c =
-    subst (λ (i : ℕ). HaveNoPlace c.args.ex.now i c.args.idle.bits) (behind _ _ c.add.ensures.length) c.requires.idle
+    subst (λ (i : ℕ). SettleNothing c.args.ex.now i c.args.idle.bits) (behind _ _ c.add.ensures.length) c.requires.idle
   where
     behind : (n m : ℕ) → m ≡ n + 1 → n ≡ m - 1
     behind n m e = omega (arith, e)

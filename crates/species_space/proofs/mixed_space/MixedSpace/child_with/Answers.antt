@@ -1,7 +1,7 @@
 use Rattle.std.proofs.Common.{◌≡◌, ◌<◌, ℕ, false, refl, length, sym, ◌∙◌, subst, arith}
 use Rattle.fux_grid.specs.Menus.{menu_of}
 use Rattle.floor_tables.specs.Tables.{Task}
-use Rattle.fux_judge.specs.Late.{HaveNoPlace}
+use Rattle.fux_judge.specs.Late.{SettleNothing}
 use Rattle.tree_search.specs.Space.{IsMadeChild}
 use Rattle.species_space.specs.Nodes.{IsNodeOf, IsTold}
 use Rattle.species_space.specs.Paths.{live_with, prefix_at, length-columns_on}
@@ -39,8 +39,8 @@ child_by-requires-clause-idle c =
     let ex = c.args.self.now.exercise in
     let same : c.len-2.result ≡ c.args.node.now.state.newest.len = c.len-2.ensures ex (prefix_at ex c.requires.child.path)
     c.requires.child.at.state ∙ sym c.requires.child.at.state.newest.count in
-    subst (λ (t : Task). HaveNoPlace t.exercise c.args.node.now.state.newest.len c.idle.result.bits)
-    (sym c.self.view_is) (subst (λ (n : ℕ). HaveNoPlace ex n c.idle.result.bits) same c.idle.ensures)
+    subst (λ (t : Task). SettleNothing t.exercise c.args.node.now.state.newest.len c.idle.result.bits)
+    (sym c.self.view_is) (subst (λ (n : ℕ). SettleNothing ex n c.idle.result.bits) same c.idle.ensures)
 
 pub child_by-requires-clause-told : goal.child_by-requires-clause-told
 child_by-requires-clause-told c = λ yes.

@@ -3,7 +3,7 @@ use Rattle.fux_grid.specs.declared.exercise.Exercise.{Exercise}
 use Rattle.fux_grid.specs.Exercises.{columns_in}
 use Rattle.penalty_sheet.specs.declared.sheet.Sheet.{Sheet}
 use Rattle.floor_tables.specs.Tables.{IsRest, Task}
-use Rattle.fux_judge.specs.Late.{HaveNoPlace}
+use Rattle.fux_judge.specs.Late.{SettleNothing}
 use Rattle.fux_judge.specs.Links.{IsOwnCost}
 use Rattle.fux_judge.specs.Still.{IsStillPlace}
 use Rattle.tree_search.specs.Space.{IsMadeChild}
@@ -53,8 +53,8 @@ child_by-requires-clause-idle c =
     let child = c.requires.child in
     let same = same_place ex c.args.self.now.sheet c.args.node.now child.path c.len-i.result child.at
     (c.len-i.ensures ex (prefix_at ex child.path) child.at.state) in
-    subst (λ (t : Task). HaveNoPlace t.exercise c.args.node.now.state.newest.len c.idle-idle.result.bits)
-    (sym c.self.view_is) (subst (λ (n : ℕ). HaveNoPlace ex n c.idle-idle.result.bits) same c.idle-idle.ensures)
+    subst (λ (t : Task). SettleNothing t.exercise c.args.node.now.state.newest.len c.idle-idle.result.bits)
+    (sym c.self.view_is) (subst (λ (n : ℕ). SettleNothing ex n c.idle-idle.result.bits) same c.idle-idle.ensures)
 
 pub child_still-requires-clause-idle : goal.child_still-requires-clause-idle
 child_still-requires-clause-idle c =
@@ -62,8 +62,8 @@ child_still-requires-clause-idle c =
     let child = c.requires.child in
     let same = same_place ex c.args.self.now.sheet c.args.node.now child.path c.len-i.result child.at
     (c.len-i.ensures ex (prefix_at ex child.path) child.at.state) in
-    subst (λ (t : Task). HaveNoPlace t.exercise c.args.node.now.state.newest.len c.idle-idle.result.bits)
-    (sym c.self.view_is) (subst (λ (n : ℕ). HaveNoPlace ex n c.idle-idle.result.bits) same c.idle-idle.ensures)
+    subst (λ (t : Task). SettleNothing t.exercise c.args.node.now.state.newest.len c.idle-idle.result.bits)
+    (sym c.self.view_is) (subst (λ (n : ℕ). SettleNothing ex n c.idle-idle.result.bits) same c.idle-idle.ensures)
 
 pub child_still-requires-clause-still : goal.child_still-requires-clause-still
 child_still-requires-clause-still c =
