@@ -1,10 +1,11 @@
 -- At a place at which nothing can begin the lines cost at least what they did (`least_still`), and
--- what a state keeps of them stays (`gauges_still`, `ahead_still`).
-use Rattle.std.specs.Prelude.{◌≡◌, ℕ, suc, ◌+◌, ◌-◌, ◌*◌, ◌<◌, ◌==◌, ℤ, Bool, true, false, not, cond, ◌&&◌, ◌||◌, List, [], ◌∷◌, ◌++◌, length, reverse, refl, if◌then◌else◌}
+-- what a state keeps of them and of the columns stays (`gauges_still`, `ahead_still`,
+-- `past_still`).
+use Rattle.std.specs.Prelude.{◌≡◌, ℕ, suc, ◌+◌, ◌-◌, ◌*◌, ◌%◌, ◌<◌, ◌==◌, ℤ, Bool, true, false, not, cond, ◌&&◌, ◌||◌, List, [], ◌∷◌, ◌++◌, length, reverse, refl, if◌then◌else◌}
 use Rattle.std.specs.Int.{from_bool}
 use Rattle.std.specs.List.{list_all, list_any, range_with_len}
-use Rattle.std.proofs.Common.{add-one, ap, sym, ◌∙◌, subst, true≢false, arith}
-use Rattle.std.proofs.lemmas.Bool.{false_from_ne_true}
+use Rattle.std.proofs.Common.{add-one, ap, sym, ◌∙◌, subst, arith}
+use Rattle.std.proofs.lemmas.Bool.{eqb-false}
 use Rattle.std.proofs.lemmas.List.{length-append}
 use Rattle.fux_pitch.specs.declared.pitch.Pitch.{Pitch}
 use Rattle.fux_pitch.specs.Pitch.{key_of}
@@ -12,25 +13,35 @@ use Rattle.fux_grid.specs.declared.cell.Cell.{Cell}
 use Rattle.fux_grid.specs.declared.cell.Cell.TheVariants.{Rest, Hold, Start}
 use Rattle.fux_grid.specs.declared.exercise.Exercise.{Exercise}
 use Rattle.fux_grid.specs.Cells.{cell_in}
-use Rattle.fux_grid.specs.Exercises.{bar_of, columns_in}
-use Rattle.fux_grid.specs.Menus.{IsInMenu, menu_of, range_of}
-use Rattle.fux_grid.proofs.MenuLemmas.{menu_of-contains}
+use Rattle.fux_grid.specs.Exercises.{IsFree, bar_of, columns_in, slot_of, species_in}
+use Rattle.fux_grid.specs.Menus.{IsInMenu, range_of}
+use Rattle.fux_grid.specs.Orderly.{voice_shapes}
+use Rattle.fux_grid.specs.Shapes.{letter_of}
 use Rattle.rule_law.specs.Gauges.{menu_starts, starts_ahead}
 use Rattle.rule_law.specs.Growth.{list_any-same, sum_by-same}
 use Rattle.rule_law.specs.Quiet.{is_quiet}
 use Rattle.rule_law.specs.Terms.{starts}
-use Rattle.rule_law.proofs.MenuStarts.{any_from, starts_ahead-more}
+use Rattle.rule_law.proofs.MenuStarts.{starts_ahead-more}
 use Rattle.melody_rules.specs.GaugeParts.{IsClimaxOf, IsCompassOf, IsLeapsOf, IsStrikesOf}
 use Rattle.melody_rules.specs.Gauges.{beyond_fourth, climax_least, climax_repeats, compass_least, gauges, is_at_top, is_final_climax, is_last_climax, is_narrow, is_topped, leaps_in, leaps_least, moves_in, strikes_least}
 use Rattle.melody_rules.specs.Held.{pitches-hold}
-use Rattle.melody_rules.specs.Rows.{pitches}
+use Rattle.melody_rules.specs.Keys.{greatest_key, least_key}
+use Rattle.melody_rules.specs.Notes.{IsNotesOf}
+use Rattle.melody_rules.specs.Rows.{before_last, last_of, latest_turning, pitches}
+use Rattle.melody_rules.specs.declared.notes.VoiceNotes.{VoiceNotes}
+use Rattle.dissonance_rules.proofs.LatestNotes.{starts-same}
+use Rattle.rhythm_cadence.specs.Parts.{all_have}
+use Rattle.rhythm_cadence.proofs.AlikeShapes.{same_letter, shapes_stay}
 use Rattle.penalty_sheet.specs.declared.sheet.Sheet.{Sheet}
 use Rattle.fux_judge.specs.declared.ahead.LineAhead.{LineAhead}
 use Rattle.fux_judge.specs.declared.gauges.LineGauges.{LineGauges}
 use Rattle.fux_judge.specs.Gauges.{cells_of_voice, free_voices, least_of, least_of_line}
 use Rattle.fux_judge.specs.GaugeStates.{AreAheadOf, AreGaugesOf, IsAheadOf, IsGaugesOf}
+use Rattle.fux_judge.specs.States.{IsPastOf}
 use Rattle.fux_judge.specs.Still.{IsStillPlace}
+use Rattle.fux_judge.specs.declared.past.Past.{Past}
 use Rattle.fux_judge.proofs.Alive.{prefix_before}
+use Rattle.fux_judge.proofs.IdleLemmas.{allowed_there, none_starts}
 use Rattle.fux_judge.proofs.LeastLaws.{cells-more, costs_same, length-cells}
 
 -- ---- the column
@@ -44,10 +55,7 @@ none_start (c ∷ col) none =
 module _ (ex : Exercise) (i : ℕ) (still : IsStillPlace ex i) (col : List Cell) (menu : IsInMenu ex i col) where
   -- so it is of one in the menu of such a place
   pub cells_rest : (v : ℕ) → starts (cell_in col v) ≡ false
-  cells_rest v =
-      false_from_ne_true (starts (cell_in col v))
-      (λ e. true≢false (sym (any_from (λ c. starts (cell_in c v)) (menu_of ex i) col ((menu_of-contains ex i col).1 menu) e)
-      ∙ still.none v))
+  cells_rest v = none_starts ex i v col menu (still.none v)
 
   -- and it is quiet
   pub still_is_quiet : is_quiet i col ≡ true
@@ -176,3 +184,44 @@ module _ (ex : Exercise) (p : List (List Cell)) (col : List Cell) (room : length
     where
       longer : suc (length p) ≡ length (p ++ col ∷ [])
       longer = omega (arith, length-append p (col ∷ []))
+
+  -- what the crates keep stays too
+  pub past_still : (past : Past) → IsPastOf ex p past → IsPastOf ex (p ++ col ∷ []) past
+  past_still past is = record {
+    melody = λ v notes there.
+        let Noted : List Cell → Type 0 = λ cells. IsNotesOf cells notes in
+        subst Noted (sym (cells-more p col v))
+        (noted (cell_in col v) (cells_of_voice p v) notes (cells_rest ex (length p) still col menu v)
+        (is.melody v notes there));
+    dissonance = λ v kept there.
+        starts-same p col v (species_in ex v) kept (cells_rest ex (length p) still col menu v) (is.dissonance v kept there);
+    rhythm = λ v some free.
+        is.rhythm v (begun (length p) (eqb-false (slot_of (length p)) 0 still.inner)) free
+        ∙ sym (shapes_stay ex v p col still.inner (held v free));
+  }
+    where
+      noted : (c : Cell) (cells : List Cell) (notes : VoiceNotes) → starts c ≡ false → IsNotesOf cells notes
+          → IsNotesOf (c ∷ cells) notes
+      noted c cells notes rests are =
+          let back : pitches cells ≡ pitches (c ∷ cells) = sym (same_pitches c cells rests) in
+          record {
+            last = are.last ∙ ap last_of back;
+            before = are.before ∙ ap before_last back;
+            turning = are.turning ∙ ap latest_turning back;
+            greatest = are.greatest ∙ ap greatest_key back;
+            least = are.least ∙ ap least_key back;
+          }
+
+      begun : (n : ℕ) → (n % 8 ≡ 0 → ⊥) → 0 < n
+      begun n h = omega arith
+
+      -- each of a free voice's shapes has its cell's letter
+      held : (v : ℕ) → IsFree ex v → all_have (slot_of (length p)) (letter_of (cell_in col v))
+          (voice_shapes ex v (bar_of (length p))) ≡ true
+      held v free =
+          let shapes : List (List ℕ) = voice_shapes ex v (bar_of (length p)) in
+          let hold = still.shapes v free.there in
+          ap (λ l. all_have (slot_of (length p)) l shapes)
+          (same_letter (slot_of (length p)) (letter_of (cell_in col v)) 72 shapes hold
+          (allowed_there ex (length p) v col menu free))
+          ∙ hold

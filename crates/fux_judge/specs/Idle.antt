@@ -10,6 +10,10 @@ use Rattle.rhythm_cadence.specs.Parts.{all_have, are_alike}
 abbrev pub AreShapesAlike : Exercise → ℕ → Type 0
 AreShapesAlike ex i = (v : ℕ) → v < ex.voices → are_alike (slot_of i) (voice_shapes ex v (bar_of i)) ≡ true
 
+-- each shape of each voice holds a note there
+abbrev pub DoShapesHold : Exercise → ℕ → Type 0
+DoShapesHold ex i = (v : ℕ) → v < ex.voices → all_have (slot_of i) 72 (voice_shapes ex v (bar_of i)) ≡ true
+
 -- a voice holds a note there in each of its shapes, or it starts none in the column before, and
 -- columns are to come
 abbrev pub EndsNoQuaver : Exercise → ℕ → ℕ → Type 0

@@ -9,12 +9,15 @@ use Rattle.rule_law.specs.Prefixes.{IsPrefix}
 use Rattle.penalty_sheet.specs.declared.sheet.Sheet.{Sheet}
 use Rattle.fux_judge.specs.declared.state.State.{State}
 use Rattle.fux_judge.specs.Gauges.{least_of}
+use Rattle.fux_judge.specs.Idle.{DoShapesHold}
 use Rattle.fux_judge.specs.States.{IsStateOf}
 
--- no bar begins at the place, and no column of its menu starts a note
+-- no bar begins at the place, no column of its menu starts a note, and each shape of each voice
+-- holds one there
 pub record IsStillPlace (ex : Exercise) (i : ℕ) : Type 0 where
   pub inner : begins_bar i ≡ false
   pub none : (v : ℕ) → menu_starts ex v i ≡ false
+  pub shapes : DoShapesHold ex i
 
 -- whatever prefix the state is of, with the column behind it the lines cost at least what they did
 abbrev pub KeepsLeast : Exercise → Sheet → State → List Cell → Type 0

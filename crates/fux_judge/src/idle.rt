@@ -4,7 +4,7 @@ ghost use Rattle.std.specs.Prelude.{◌≡◌, ◌<◌, IsTrue};
 ghost use Rattle.fux_grid.specs.Exercises.{IsValid, bar_of, columns_in, slot_of};
 ghost use Rattle.fux_grid.specs.Orderly.{voice_shapes};
 ghost use Rattle.rhythm_cadence.specs.Parts as parts;
-ghost use Rattle.fux_judge.specs.Idle.{AreShapesAlike, EndNoQuaver, EndsNoQuaver};
+ghost use Rattle.fux_judge.specs.Idle.{AreShapesAlike, DoShapesHold, EndNoQuaver, EndsNoQuaver};
 ghost use Rattle.fux_judge.specs.Late.{SettleNothing};
 
 use crate::late::without_place;
@@ -48,6 +48,20 @@ fn are_shapes_alike(ex: &Exercise, i: usize) -> bool
 {
     for v in 0..ex.voices {
         if !has_one_letter(ex, v, i) {
+            return false;
+        }
+    }
+    true
+}
+
+/// Whether each shape of each voice holds a note at a place.
+pub fn do_shapes_hold(ex: &Exercise, i: usize) -> bool
+    requires valid { IsValid ex.now }
+    requires place { i < columns_in ex.now }
+    ensures { IsTrue result → DoShapesHold ex.now i }
+{
+    for v in 0..ex.voices {
+        if !holds_there(ex, v, i) {
             return false;
         }
     }

@@ -30,7 +30,7 @@ mod verdict;
 mod whole;
 
 pub use always::is_always_dead;
-pub use idle::idle_rules;
+pub use idle::{do_shapes_hold, idle_rules};
 pub use lines::least;
 pub use link::{alone_rule, column_cost, link_cost, pair_cost};
 pub use moves::{move_cost, moves_are_least, pair_cost_from};

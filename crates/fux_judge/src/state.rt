@@ -60,8 +60,8 @@ impl State {
         self.newest.push(cells);
     }
 
-    /// Adds a column of the menu of a place at which nothing can begin: there what the gauges keep
-    /// stays, and what lies ahead of them.
+    /// Adds a column of the menu of a place at which nothing can begin: there what the crates of
+    /// rules and the gauges keep stays, and what lies ahead of them.
     #[inline(always)]
     pub fn add_still(&mut self, ex: &Exercise, col: &Column)
         requires valid { IsValid ex.now }
@@ -73,9 +73,8 @@ impl State {
             self.new) }
         ensures length { self.new.newest.len ≡ self.old.newest.len + 1 }
     {
+        let _ = ex;
         let cells = col.as_slice();
-        let i = self.newest.len;
-        self.past.note(ex, i, cells);
         self.newest.push(cells);
     }
 

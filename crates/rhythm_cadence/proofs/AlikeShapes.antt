@@ -1,9 +1,11 @@
 -- Where all shapes that a voice may have in a bar have one letter at a column's slot, and its cell
 -- is one that a shape allows, a list stays orderly with the column (`alike_orderly`), so that it
--- settles no break of S3 (`alike_unbroken`).
-use Rattle.std.proofs.Common.{◌≡◌, ℕ, ◌+◌, ◌-◌, ◌*◌, ◌/◌, ◌%◌, ◌<◌, ◌≤◌, ◌==◌, Bool, true, false, ◌&&◌, ◌||◌, List, [], ◌∷◌, ◌++◌, length, refl, ap, sym, ◌∙◌, inl, inr, arith}
-use Rattle.std.specs.Prelude.{nat_eq, slice_index}
+-- settles no break of S3 (`alike_unbroken`), and the shapes begun stay within a bar
+-- (`shapes_stay`).
+use Rattle.std.proofs.Common.{◌≡◌, ℕ, ◌+◌, ◌-◌, ◌*◌, ◌/◌, ◌%◌, ◌<◌, ◌==◌, Bool, true, false, ◌&&◌, ◌||◌, List, [], ◌∷◌, ◌++◌, length, refl, ap, sym, ◌∙◌, inl, inr, arith}
+use Rattle.std.specs.Prelude.{nat_eq, slice_index, if◌then◌else◌}
 use Rattle.std.specs.List.{starts_with}
+use Rattle.std.proofs.Math.Bool.{and-true}
 use Rattle.std.proofs.lemmas.Bool.{and_from, and_parts, and_right, cases_Bool, eqb-false, eqb-true, or_left, or_right}
 use Rattle.fux_grid.specs.declared.cell.Cell.{Cell}
 use Rattle.fux_grid.specs.declared.exercise.Exercise.{Exercise}
@@ -19,9 +21,9 @@ use Rattle.rule_law.specs.Growth.{newly}
 use Rattle.rule_law.specs.Places.{reading_of, settled_by}
 use Rattle.rule_law.specs.Rulebooks.{newly_breaks}
 use Rattle.rhythm_cadence.specs.Book.{shape_rule}
-use Rattle.rhythm_cadence.specs.Parts.{all_have, are_alike}
+use Rattle.rhythm_cadence.specs.Parts.{all_have, are_alike, shape_set, shapes_begun}
 use Rattle.rhythm_cadence.specs.Rows.{broken_in, enough_after}
-use Rattle.rhythm_cadence.proofs.NewestBars.{bar_before, length-letters, letter_is_some, newest_bar-within, newest_columns-within, none_before}
+use Rattle.rhythm_cadence.proofs.NewestBars.{bar_before, begun-more, begun-within, length-letters, letter_is_some, newest_bar-within, newest_columns-within, none_before}
 use Rattle.rhythm_cadence.proofs.OrderlyReadings.{orderly-unbroken}
 use Rattle.rhythm_cadence.proofs.ShapeSets.{starts_with-more}
 
@@ -71,6 +73,26 @@ goes_on letters l (shape ∷ shapes) some all begun =
         ∙ and_from (starts_with nat_eq shape letters) (slice_index shape (length letters) == l) e f)
     at false e f k later =
         or_right (starts_with nat_eq shape (letters ++ l ∷ [])) (begins_shape shapes (letters ++ l ∷ [])) (later k)
+
+-- so the set of those that begin so stays
+same_set : (begun : List ℕ → Bool) (slot l : ℕ) (shapes : List (List ℕ)) → all_have slot l shapes ≡ true
+    → shape_set (λ shape. begun shape && (slice_index shape slot == l)) shapes ≡ shape_set begun shapes
+same_set begun slot l [] all = refl
+same_set begun slot l (shape ∷ shapes) all =
+    let both = and_parts (slice_index shape slot == l) (all_have slot l shapes) all in
+    let first : (begun shape && (slice_index shape slot == l)) ≡ begun shape =
+    ap (λ b. begun shape && b) both.0 ∙ and-true (begun shape) in
+    ap (λ b. (if b then 1 else 0) + 2 * shape_set (λ s. begun s && (slice_index s slot == l)) shapes) first
+    ∙ ap (λ n. (if begun shape then 1 else 0) + 2 * n) (same_set begun slot l shapes both.1)
+
+pub shapes_stay : (ex : Exercise) (v : ℕ) (p : List (List Cell)) (col : List Cell) → begins_bar (length p) ≡ false
+    → all_have (slot_of (length p)) (letter_of (cell_in col v)) (voice_shapes ex v (bar_of (length p))) ≡ true
+    → shapes_begun ex v (p ++ col ∷ []) ≡ shapes_begun ex v p
+shapes_stay ex v p col inner all =
+    begun-more ex v p col
+    ∙ same_set (λ shape. starts_with nat_eq shape (letters_of v (bar_before p))) (slot_of (length p))
+    (letter_of (cell_in col v)) (voice_shapes ex v (bar_of (length p))) all
+    ∙ sym (begun-within ex v p (eqb-false (slot_of (length p)) 0 inner))
 
 -- no letters begin each shape, where there is one
 some_begins : (slot l : ℕ) (shapes : List (List ℕ)) → allows shapes slot l ≡ true → begins_shape shapes [] ≡ true

@@ -73,7 +73,7 @@ goes_on v p col shape =
     ∙ ap (λ n. starts_with nat_eq shape (letters_of v (bar_before p))
     && (slice_index shape n == letter_of (cell_in col v))) (length-letters v p)
 
-begun-more : (ex : Exercise) (v : ℕ) (p : List (List Cell)) (col : List Cell) → shapes_begun ex v (p ++ col ∷ [])
+pub begun-more : (ex : Exercise) (v : ℕ) (p : List (List Cell)) (col : List Cell) → shapes_begun ex v (p ++ col ∷ [])
     ≡ shape_set (λ shape. starts_with nat_eq shape (letters_of v (bar_before p))
     && (slice_index shape (slot_of (length p)) == letter_of (cell_in col v))) (voice_shapes ex v (bar_of (length p)))
 begun-more ex v p col =
@@ -91,7 +91,7 @@ none_before p h = drop_all (8 * (length p / 8)) p (whole (length p) h)
     whole : (n : ℕ) → n % 8 ≡ 0 → n ≤ 8 * (n / 8)
     whole n h = omega arith
 
-begun-within : (ex : Exercise) (v : ℕ) (p : List (List Cell)) → (slot_of (length p) ≡ 0 → ⊥) → shapes_begun ex v p
+pub begun-within : (ex : Exercise) (v : ℕ) (p : List (List Cell)) → (slot_of (length p) ≡ 0 → ⊥) → shapes_begun ex v p
     ≡ shape_set (λ shape. starts_with nat_eq shape (letters_of v (bar_before p)))
     (voice_shapes ex v (bar_of (length p)))
 begun-within ex v p h =

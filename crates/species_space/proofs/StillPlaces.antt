@@ -1,5 +1,5 @@
--- Where each cell of each column of its menu is a hold, nothing can begin at a place within a bar
--- (`still_place`).
+-- Where each cell of each column of its menu is a hold, and each shape of each voice holds a note,
+-- nothing can begin at a place within a bar (`still_place`).
 use Rattle.std.proofs.Common.{◌≡◌, ℕ, All, List, true, false, length, refl, ap, sym, ◌∙◌, inl, inr, true≢false}
 use Rattle.std.specs.Prelude.{IsTrue}
 use Rattle.std.specs.List.{list_any}
@@ -14,6 +14,7 @@ use Rattle.fux_grid.specs.Menus.{menu_of}
 use Rattle.rule_law.specs.Bars.{begins_bar}
 use Rattle.rule_law.specs.Terms.{starts}
 use Rattle.rule_law.proofs.MenuStarts.{any_only}
+use Rattle.fux_judge.specs.Idle.{DoShapesHold}
 use Rattle.fux_judge.specs.Still.{IsStillPlace}
 use Rattle.species_space.specs.Blocks.{IsOnlyHolds}
 
@@ -37,5 +38,10 @@ menu_rests menu held v =
     let found = any_only (λ (col : List Cell). starts (cell_in col v)) menu e in
     true≢false (sym found.2 ∙ column_rests found.0 (All-contains IsOnlyHolds menu found.0 held found.1) v))
 
-pub still_place : (ex : Exercise) (i : ℕ) → begins_bar i ≡ false → All IsOnlyHolds (menu_of ex i) → IsStillPlace ex i
-still_place ex i inner held = record { inner = inner; none = menu_rests (menu_of ex i) held }
+pub still_place : (ex : Exercise) (i : ℕ) → begins_bar i ≡ false → All IsOnlyHolds (menu_of ex i) → DoShapesHold ex i
+    → IsStillPlace ex i
+still_place ex i inner held shapes = record {
+  inner = inner;
+  none = menu_rests (menu_of ex i) held;
+  shapes = shapes;
+}

@@ -35,6 +35,8 @@ pub(crate) struct BlockMenu {
     pub(crate) undead: Vec<u16>,
     /// Late rules of which the column of its place settles no strict break.
     pub(crate) idle: RuleSet,
+    /// Whether nothing can begin at its place.
+    pub(crate) still: bool,
 }
 
 /// The columns of a menu, as the tables keep them, with what is known of them.

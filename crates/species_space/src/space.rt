@@ -1,13 +1,13 @@
 //! The tree of the settings of an exercise.
 
-ghost use Rattle.std.specs.Prelude.{◌≡◌, ◌<◌, ◌≤◌, ◌+◌, ◌^◌, Bool, [], reverse, Some, None, OnOk, IfOk, IfErr, IfSome, IfNone, IsTrue, length, slice_index_or};
+ghost use Rattle.std.specs.Prelude.{◌≡◌, ◌<◌, ◌≤◌, ◌+◌, ◌^◌, Bool, [], reverse, Some, None, OnOk, IfOk, IfErr, IfSome, IfNone, IsTrue, All, length, slice_index_or};
 ghost use Rattle.fux_grid.specs.Columns.{ColumnFollows, Columns, newest_column};
 ghost use Rattle.fux_grid.specs.Exercises.{IsValid, columns_in};
 ghost use Rattle.fux_judge.specs.States.{IsStateOf};
 ghost use Rattle.fux_grid.specs.Grid.{items_of};
 ghost use Rattle.fux_grid.specs.Menus.{menu_of};
 ghost use Rattle.std.specs.Bool.{OnFalse};
-ghost use Rattle.species_space.specs.Blocks.{AreBlocksOf, AreSound, AreUndead};
+ghost use Rattle.species_space.specs.Blocks.{AreBlocksOf, AreSound, AreUndead, IsOnlyHolds};
 ghost use Rattle.floor_tables.specs.Tables.{AreNarrow, IsRest, TellsWidth};
 ghost use Rattle.fux_judge.specs.Late.{SettleNothing};
 ghost use Rattle.fux_judge.specs.Links.{IsOwnCost};
@@ -27,8 +27,8 @@ use crate::walk::next_unpruned;
 use floor_tables::{TableFault, Tables, fill_tables};
 use fux_grid::{Column, Exercise, cells_follow};
 use fux_judge::{
-    Price, State, again_still, idle_rules, is_always_dead, least, step_again, step_still,
-    step_unbroken,
+    Price, State, again_still, do_shapes_hold, idle_rules, is_always_dead, least, step_again,
+    step_still, step_unbroken,
 };
 use fux_pitch::Memory;
 use penalty_sheet::Sheet;
@@ -144,16 +144,14 @@ impl<'a> SpeciesSpace<'a> {
         self.menus[i].idle
     }
 
-    /// Whether nothing can begin at column i: no bar does, and each cell of its menu is a hold.
+    /// Whether nothing can begin at column i: no bar does, each cell of its menu is a hold, and
+    /// each shape of each voice holds a note there.
     #[inline]
     fn is_still(&self, i: usize) -> bool
         requires { i < columns_in self.now.exercise }
         ensures { IsTrue result → IsStillPlace self.now.exercise i }
     {
-        if begins_bar(i) {
-            return false;
-        }
-        self.menus[i].blocks.only_holds
+        self.menus[i].still
     }
 
     /// What its own tolls cost the column of a number in the menu of column i.
@@ -349,6 +347,22 @@ fn blocks_at(tables: &Tables<'_>, menus: &[BlockMenu], i: usize) -> Blocks
     Blocks::new(tables.columns(i))
 }
 
+/// Whether nothing can begin at a place, where it is told whether each cell of its menu is a hold.
+fn is_still_place(exercise: &Exercise, i: usize, held: bool) -> bool
+    requires valid { IsValid exercise.now }
+    requires place { i < columns_in exercise.now }
+    requires held { IsTrue held → All IsOnlyHolds (menu_of exercise.now i) }
+    ensures { IsTrue result → IsStillPlace exercise.now i }
+{
+    if begins_bar(i) {
+        return false;
+    }
+    if !held {
+        return false;
+    }
+    do_shapes_hold(exercise, i)
+}
+
 /// What is known of the menus of all columns.
 fn menus_of(
     alloc: Global,
@@ -366,10 +380,12 @@ fn menus_of(
         let blocks = blocks_at(tables, &menus, i);
         let undead = undead_numbers(alloc, exercise, i, tables.columns(i))?;
         let idle = idle_rules(exercise, i);
+        let still = is_still_place(exercise, i, blocks.only_holds);
         menus.push_reserved(BlockMenu {
             blocks,
             undead,
             idle,
+            still,
         });
     }
     Ok(menus)

@@ -1,12 +1,16 @@
-use Rattle.std.proofs.Common.{length, ap, sym, ◌∙◌, subst, arith}
+use Rattle.std.proofs.Common.{All, length, ap, sym, ◌∙◌, subst, arith}
 use Rattle.std.proofs.lemmas.List.{length_push}
 use Rattle.fux_grid.specs.declared.exercise.Exercise.{Exercise}
 use Rattle.fux_grid.specs.Menus.{menu_of}
 use Rattle.chain_sums.proofs.TableLemmas.{each_pushed}
 use Rattle.species_space.specs.declared.blocks.BlockMenu.{BlockMenu}
-use Rattle.species_space.specs.Blocks.{AreBlocksOf, AreUndead}
+use Rattle.species_space.specs.Blocks.{AreBlocksOf, AreUndead, IsOnlyHolds}
 use Rattle.species_space.specs.Task.{AreMenus, IsBlockMenuOf}
 use Rattle.species_space.proofs.space.menus_of.Goals as goal
+
+pub is_still_place-still-requires-clause-held : goal.is_still_place-still-requires-clause-held
+is_still_place-still-requires-clause-held c = λ yes.
+    subst (λ (e : Exercise). All IsOnlyHolds (menu_of e c.loop-i.i)) c.requires.tables (c.blocks_at-blocks.ensures.holds yes)
 
 pub loop-i-preserved : goal.loop-i-preserved
 loop-i-preserved c =
@@ -19,6 +23,7 @@ loop-i-preserved c =
       blocks = c.blocks_at-blocks.result;
       undead = c.in_ok-undead.undead;
       idle = c.idle_rules-idle.result;
+      still = c.is_still_place-still.result;
     } in
     let is = c.columns.ensures ∙ ap (λ (e : Exercise). menu_of e i) c.requires.tables in
     let next : IsBlockMenuOf ex i menu = record {
@@ -26,6 +31,7 @@ loop-i-preserved c =
           c.blocks_at-blocks.ensures;
       skip = subst (λ cols. AreUndead ex i cols menu.undead.items) is c.in_ok-undead.ensures;
       idle = c.idle_rules-idle.ensures;
+      still = c.is_still_place-still.ensures;
     } in
     record {
       room = c.push_reserved.ensures.capacity ∙ old.room;

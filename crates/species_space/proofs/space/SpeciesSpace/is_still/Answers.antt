@@ -1,9 +1,8 @@
-use Rattle.std.proofs.Common.{◌<◌, length, ap, sym, ◌∙◌, subst, arith}
+use Rattle.std.proofs.Common.{◌<◌, length, ap, sym, subst, arith}
 use Rattle.fux_grid.specs.Exercises.{columns_in}
 use Rattle.floor_tables.specs.Tables.{Task}
 use Rattle.fux_judge.specs.Still.{IsStillPlace}
 use Rattle.species_space.specs.Task.{IsBlockMenuOf}
-use Rattle.species_space.proofs.StillPlaces.{still_place}
 use Rattle.species_space.proofs.space.SpeciesSpace.is_still.Goals as goal
 
 pub returns : goal.returns
@@ -15,5 +14,4 @@ returns c = λ yes.
     let within : i < length c.self.inside.menus.items = omega
     (arith, c.requires, ready.counted, ap (λ (t : Task). columns_in t.exercise) c.self.view_is) in
     let known : IsBlockMenuOf ex i menu = subst (IsBlockMenuOf ex i) (sym c.index.ensures) (ready.kept i menu within) in
-    subst (λ (t : Task). IsStillPlace t.exercise i) c.self.view_is
-    (still_place ex i (sym c.begins_bar.ensures ∙ c.if-begins_bar.false) (known.blocks.holds yes))
+    subst (λ (t : Task). IsStillPlace t.exercise i) c.self.view_is (known.still yes)
