@@ -48,6 +48,13 @@ abbrev pub is_imperfect_size : Interval → Bool
 is_imperfect_size i =
     has_size 2 3 (reduced i) || has_size 2 4 (reduced i) || has_size 5 8 (reduced i) || has_size 5 9 (reduced i)
 
+-- a reduced size is one of these, or where no voice is the lowest, a fourth or a diminished fifth
+abbrev pub is_consonant_within : Interval → Bool → Bool
+is_consonant_within size lowest =
+    (has_size 0 0 size || has_size 4 7 size)
+    || (has_size 2 3 size || has_size 2 4 size || has_size 5 8 size || has_size 5 9 size)
+    || (if lowest then false else (has_size 3 5 size || has_size 3 6 size || has_size 4 6 size))
+
 -- consonant, where one of the two voices is the lowest, or where neither is
 abbrev pub is_consonant_size : Interval → Bool → Bool
 is_consonant_size i lowest = is_perfect_size i || is_imperfect_size i

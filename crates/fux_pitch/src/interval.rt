@@ -1,8 +1,8 @@
 //! Intervals, their reduced sizes and the three classes of Fux's Gradus ad Parnassum (1725):
 //! perfect consonances, imperfect consonances and dissonances.
 
-ghost use Rattle.std.specs.Prelude.{◌≡◌, pos, negsuc, ◌≤ℤ◌};
-ghost use Rattle.fux_pitch.specs.Size.{interval_between, IsShort, upward, within_octave, reduced, has_size, is_perfect_size, is_imperfect_size, is_consonant_size};
+ghost use Rattle.std.specs.Prelude.{◌≡◌, ◌||◌, pos, negsuc, ◌≤ℤ◌};
+ghost use Rattle.fux_pitch.specs.Size.{interval_between, IsShort, upward, within_octave, reduced, has_size, is_perfect_size, is_imperfect_size, is_consonant_size, is_consonant_within};
 
 use crate::key::semitone;
 use crate::pitch::Pitch;
@@ -77,13 +77,27 @@ fn is_size(i: Interval, degrees: u8, semitones: u8) -> bool
     i.degrees == i16::from(degrees) && i.semitones == i16::from(semitones)
 }
 
+/// Whether a reduced size is that of a unison, an octave or a fifth.
+fn is_perfect_within(size: Interval) -> bool
+    ensures { result ≡ (has_size 0 0 size || has_size 4 7 size) }
+{
+    is_size(size, 0, 0) || is_size(size, 4, 7)
+}
+
+/// Whether it is that of a third or a sixth.
+fn is_imperfect_within(size: Interval) -> bool
+    ensures { result ≡ (has_size 2 3 size || has_size 2 4 size || has_size 5 8 size
+        || has_size 5 9 size) }
+{
+    is_size(size, 2, 3) || is_size(size, 2, 4) || is_size(size, 5, 8) || is_size(size, 5, 9)
+}
+
 /// A perfect consonance: a unison, an octave or a fifth, over any number of octaves.
 pub fn is_perfect(i: Interval) -> bool
     requires { IsShort i }
     ensures { result ≡ is_perfect_size i }
 {
-    let size = reduce(i);
-    is_size(size, 0, 0) || is_size(size, 4, 7)
+    is_perfect_within(reduce(i))
 }
 
 /// An imperfect consonance: a major or minor third or sixth, over any number of octaves.
@@ -91,8 +105,21 @@ pub fn is_imperfect(i: Interval) -> bool
     requires { IsShort i }
     ensures { result ≡ is_imperfect_size i }
 {
-    let size = reduce(i);
-    is_size(size, 2, 3) || is_size(size, 2, 4) || is_size(size, 5, 8) || is_size(size, 5, 9)
+    is_imperfect_within(reduce(i))
+}
+
+/// Whether an interval of this reduced size is a consonance, where one of the two voices is the
+/// lowest or neither is.
+pub fn is_consonant_within(size: Interval, lowest: bool) -> bool
+    ensures { result ≡ is_consonant_within size lowest }
+{
+    if is_perfect_within(size) || is_imperfect_within(size) {
+        return true;
+    }
+    if lowest {
+        return false;
+    }
+    is_size(size, 3, 5) || is_size(size, 3, 6) || is_size(size, 4, 6)
 }
 
 /// A consonance. Between two voices of which none is the lowest, the perfect and the augmented
@@ -101,12 +128,5 @@ pub fn is_consonant(i: Interval, lowest: bool) -> bool
     requires { IsShort i }
     ensures { result ≡ is_consonant_size i lowest }
 {
-    if is_perfect(i) || is_imperfect(i) {
-        return true;
-    }
-    if lowest {
-        return false;
-    }
-    let size = reduce(i);
-    is_size(size, 3, 5) || is_size(size, 3, 6) || is_size(size, 4, 6)
+    is_consonant_within(reduce(i), lowest)
 }

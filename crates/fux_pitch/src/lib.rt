@@ -13,7 +13,9 @@ mod share;
 mod spelling;
 
 pub use any_list::AnyList;
-pub use interval::{Interval, interval_of, is_consonant, is_imperfect, is_perfect, reduce};
+pub use interval::{
+    Interval, interval_of, is_consonant, is_consonant_within, is_imperfect, is_perfect, reduce,
+};
 pub use key::semitone;
 pub use list::{Label, List};
 pub use memory::Memory;

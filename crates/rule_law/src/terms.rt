@@ -7,7 +7,7 @@ ghost use Rattle.fux_grid.specs.Columns.{line, earlier};
 ghost use Rattle.rule_law.specs.Terms as terms;
 
 use fux_grid::{Cell, Score, cell_of, note_behind};
-use fux_pitch::{Interval, Pitch, interval_of, is_consonant, is_perfect, reduce};
+use fux_pitch::{Interval, Pitch, interval_of, is_consonant_within, is_perfect, reduce};
 
 /// Whether a note starts in the cell.
 pub fn starts(cell: Cell) -> bool
@@ -56,11 +56,11 @@ pub fn is_clash(column: &[Cell], v: usize, w: usize) -> bool
     let (Some(p), Some(q)) = (cell_of(column, v).pitch(), cell_of(column, w).pitch()) else {
         return false;
     };
-    let interval = interval_of(p, q);
-    if is_consonant(interval, true) {
+    let size = reduce(interval_of(p, q));
+    if is_consonant_within(size, true) {
         return false;
     }
-    if !is_consonant(interval, false) {
+    if !is_consonant_within(size, false) {
         return true;
     }
     is_lowest(column, v) || is_lowest(column, w)

@@ -2,7 +2,7 @@ use Rattle.std.specs.Prelude.{◌≡◌, ℕ, Bool, true, false, not, ◌||◌, 
 use Rattle.std.proofs.Common.{ap, sym, ◌∙◌}
 use Rattle.fux_pitch.specs.declared.interval.Interval.{Interval}
 use Rattle.fux_pitch.specs.declared.pitch.Pitch.{Pitch}
-use Rattle.fux_pitch.specs.Size.{has_size, interval_between, is_consonant_size, is_imperfect_size, is_perfect_size, reduced}
+use Rattle.fux_pitch.specs.Size.{has_size, interval_between, is_consonant_size, is_consonant_within, is_imperfect_size, is_perfect_size, reduced}
 use Rattle.fux_grid.specs.declared.cell.Cell.{Cell}
 use Rattle.fux_grid.specs.Cells.{cell_in, pitch_of}
 use Rattle.rule_law.specs.Terms.{clash, holds_of, interval_of_pitches, is_lowest}
@@ -40,8 +40,8 @@ consonant_with i l = always (is_perfect_size i) (is_imperfect_size i) (above_low
 dissonant_with : (i : Interval) (l : Bool) → is_consonant_size i false ≡ false → is_consonant_size i l ≡ false
 dissonant_with i l = never (is_perfect_size i) (is_imperfect_size i) (above_lowest i) l
 
-pub returns-then-is_consonant : goal.returns-then-is_consonant
-returns-then-is_consonant c =
+pub returns-then-is_consonant_within : goal.returns-then-is_consonant_within
+returns-then-is_consonant_within c =
     let p = c.in-Some-Some.p in
     let q = c.in-Some-Some.q in
     let here : pitch_of (cell_in c.args.column.now c.args.v) ≡ Some p =
@@ -49,13 +49,13 @@ returns-then-is_consonant c =
     let there : pitch_of (cell_in c.args.column.now c.args.w) ≡ Some q =
     sym (ap pitch_of c.cell_of-2.ensures) ∙ sym c.pitch-2.ensures ∙ c.in-Some-Some.is-1 in
     let consonant : is_consonant_size (interval_between p q) true ≡ true =
-    sym (ap (λ i. is_consonant_size i true) c.interval_of-interval.ensures.value) ∙ sym c.is_consonant.ensures
-    ∙ c.if-is_consonant.true in
+    sym (ap (λ size. is_consonant_within size true) (c.reduce-size.ensures ∙ ap reduced c.interval_of.ensures.value))
+    ∙ sym c.is_consonant_within.ensures ∙ c.if-is_consonant_within.true in
     sym (clash-of c.args.column.now c.args.v c.args.w p q here there
     ∙ ap not (consonant_with (interval_between p q) (is_lowest c.args.column.now c.args.v || is_lowest c.args.column.now c.args.w) consonant))
 
-pub returns-then-not-is_consonant : goal.returns-then-not-is_consonant
-returns-then-not-is_consonant c =
+pub returns-then-not-is_consonant_within : goal.returns-then-not-is_consonant_within
+returns-then-not-is_consonant_within c =
     let p = c.in-Some-Some.p in
     let q = c.in-Some-Some.q in
     let here : pitch_of (cell_in c.args.column.now c.args.v) ≡ Some p =
@@ -63,7 +63,7 @@ returns-then-not-is_consonant c =
     let there : pitch_of (cell_in c.args.column.now c.args.w) ≡ Some q =
     sym (ap pitch_of c.cell_of-2.ensures) ∙ sym c.pitch-2.ensures ∙ c.in-Some-Some.is-1 in
     let dissonant : is_consonant_size (interval_between p q) false ≡ false =
-    sym (ap (λ i. is_consonant_size i false) c.interval_of-interval.ensures.value) ∙ sym c.is_consonant-2.ensures
-    ∙ c.if-not-is_consonant.true in
+    sym (ap (λ size. is_consonant_within size false) (c.reduce-size.ensures ∙ ap reduced c.interval_of.ensures.value))
+    ∙ sym c.is_consonant_within-2.ensures ∙ c.if-not-is_consonant_within.true in
     sym (clash-of c.args.column.now c.args.v c.args.w p q here there
     ∙ ap not (dissonant_with (interval_between p q) (is_lowest c.args.column.now c.args.v || is_lowest c.args.column.now c.args.w) dissonant))
