@@ -12,7 +12,7 @@ silent = record { cells = Rest ∷ Rest ∷ Rest ∷ Rest ∷ [] }
 
 -- what is kept of column i, of so many voices
 abbrev pub kept_column : ℕ → NewestColumns → ℕ → List Cell
-kept_column voices kept i = take voices (slice_index_or kept.columns (i % 25) silent).cells
+kept_column voices kept i = take voices (slice_index_or kept.columns (i % 32) silent).cells
 
 -- the columns of the list, the oldest first, are so many, and the newest 25 are kept
 pub record AreNewestOf (voices : ℕ) (s : List (List Cell)) (kept : NewestColumns) : Type 0 where

@@ -36,12 +36,12 @@ impl ColumnCells {
 
 /// How many columns a list has, and the newest 25 of them: a column and the three bars before it,
 /// as far back as a rule or a toll looks from the column that settles it. Column `i` is kept at `i
-/// % 25`. It has a fixed size and takes no memory.
+/// % 32`, which takes no division. It has a fixed size and takes no memory.
 #[derive(Clone, Copy, Debug, PartialEq, Eq)]
 pub struct NewestColumns {
     /// How many columns the list has.
     pub len: usize,
-    columns: [ColumnCells; 25],
+    columns: [ColumnCells; 32],
 }
 
 impl NewestColumns {
@@ -51,7 +51,7 @@ impl NewestColumns {
     {
         NewestColumns {
             len: 0,
-            columns: [ColumnCells::RESTS; 25],
+            columns: [ColumnCells::RESTS; 32],
         }
     }
 
@@ -80,7 +80,7 @@ impl NewestColumns {
         ensures newest { GrowBy column.now self.old self.new }
         ensures count { self.new.len ≡ self.old.len + 1 }
     {
-        self.columns[self.len % 25] = ColumnCells::of(column);
+        self.columns[self.len % 32] = ColumnCells::of(column);
         self.len += 1;
     }
 
@@ -106,6 +106,6 @@ impl NewestColumns {
         if i >= self.len {
             return &[];
         }
-        &self.columns[i % 25].cells[..voices]
+        &self.columns[i % 32].cells[..voices]
     }
 }
