@@ -1,5 +1,5 @@
 -- What the gauges keep of the notes of a line, given by their pitches, the latest first.
-use Rattle.std.specs.Prelude.{◌≡◌, ℕ, ◌+◌, ◌-◌, ◌*◌, ℤ, pos, negsuc, List, count_by, length, slice_index, if◌then◌else◌}
+use Rattle.std.specs.Prelude.{◌≡◌, ℕ, ◌+◌, ◌-◌, ◌*◌, ◌/◌, ◌%◌, ◌==◌, Bool, true, false, ℤ, pos, negsuc, List, count_by, length, slice_index, if◌then◌else◌}
 use Rattle.std.specs.Ordering.{int_eq}
 use Rattle.fux_pitch.specs.declared.pitch.Pitch.{Pitch}
 use Rattle.fux_pitch.specs.Pitch.{alter_of, degree_of, same_pitch}
@@ -33,6 +33,24 @@ alter_place a = if int_eq a (negsuc 0) then 0 else (if int_eq a (pos 0) then 1 e
 abbrev pub place_in : Pitch → ℕ
 place_in p = 3 * (degree_of p - 7) + alter_place (alter_of p)
 
+-- two counts share a number: that of an even place is what 16 leaves of it
+abbrev pub half : Bool → ℕ → ℕ
+half true number = number % 16
+half false number = number / 16
+
+-- by so much the number grows with one more at such a place
+abbrev pub unit : Bool → ℕ
+unit true = 1
+unit false = 16
+
+-- the count at a place
+abbrev pub count_at : List ℕ → ℕ → ℕ
+count_at counts place = half (place % 2 == 0) (slice_index counts (place / 2))
+
+-- of a count no more is kept than four
+abbrev pub up_to_four : ℕ → ℕ
+up_to_four n = 4 - (4 - n)
+
 pub record IsStrikesOf (ps : List Pitch) (kept : Strikes) : Type 0 where
-  pub counts : (p : Pitch) → slice_index kept.counts (place_in p) ≡ count_by (same_pitch p) ps
+  pub counts : (p : Pitch) → count_at kept.counts (place_in p) ≡ up_to_four (count_by (same_pitch p) ps)
   pub beyond : kept.beyond ≡ beyond_fourth ps
