@@ -12,6 +12,7 @@ use rule_law::{is_leap, is_step, opposite_ways, same_way};
 
 /// Whether two leaps the same way may go so from end to end: by an octave at most, and by a
 /// consonance or a fourth.
+#[inline(never)]
 fn is_fair_outline(whole: Interval) -> bool
     requires { IsShort whole }
     ensures { result ≡ rows.is_fair_outline whole }
@@ -37,7 +38,7 @@ fn leaps_on(first: Interval, second: Interval) -> bool
 
 /// S6: a note starts by the second of two leaps the same way, which from end to end go by more than
 /// an octave or by neither a consonance nor a fourth.
-#[inline]
+#[inline(always)]
 pub(crate) fn outlines_badly(before: Option<Pitch>, last: Option<Pitch>, now: Cell) -> bool
     ensures { result ≡ rows.outlines_badly before last now }
 {
