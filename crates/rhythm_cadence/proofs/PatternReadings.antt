@@ -4,11 +4,10 @@ use Rattle.std.specs.Prelude.{◌≡◌, ℕ, ◌+◌, ◌-◌, ◌%◌, ◌<◌
 use Rattle.std.specs.List.{list_all}
 use Rattle.std.proofs.Common.{ap, sym, ◌∙◌, add-one, arith, drop-cons, subst}
 use Rattle.std.proofs.Math.Seq.{get_or-drop}
-use Rattle.std.proofs.lemmas.Bool.{and_parts, eq-eqb, eqb-true}
+use Rattle.std.proofs.lemmas.Bool.{and_parts, and_right, eq-eqb, eqb-true}
 use Rattle.std.proofs.lemmas.Bool.Decides.{nat_tests}
 use Rattle.std.proofs.lemmas.List.{length-drop}
 use Rattle.fux_grid.specs.declared.cell.Cell.{Cell}
-use Rattle.fux_grid.specs.declared.cell.Cell.TheVariants.{Rest}
 use Rattle.fux_grid.specs.declared.exercise.Exercise.{Exercise}
 use Rattle.fux_grid.specs.Cells.{cell_in, same_cell}
 use Rattle.fux_grid.specs.Columns.{cell_at, earlier}
@@ -58,15 +57,29 @@ module _ (s : List (List Cell)) (v i : ℕ) (second : 8 ≤ i) (whole : i + 8 �
       enough : (n : ℕ) → 7 ≤ n → nat_le 7 n ≡ true
       enough n h = grind (arith, nat_tests)
 
-  -- so a bar whose first cell is another repeats nothing
+  abbrev at_slot : ℕ → Bool
+  at_slot = repeats_slot v (earlier s i) (slice_index_or s i []) (drop (i + 1) s)
+
+  -- a bar whose first cell is another one repeats nothing
   pub first_differs : same_cell (cell_at s v (i - 8)) (cell_at s v i) ≡ false
       → repeats_bar v (earlier s i) (slice_index_or s i []) (drop (i + 1) s) ≡ false
-  first_differs other =
-      let back : i + 8 - 8 ≡ i = omega arith in
-      bar_reading
-      ∙ ap (λ b. b && list_all (λ k. same_cell (slice_index_or (bar_behind s v i) k Rest)
-      (slice_index_or (bar_behind s v (i + 8)) k Rest)) (6 ∷ 5 ∷ 4 ∷ 3 ∷ 2 ∷ 1 ∷ 0 ∷ []))
-      (ap (λ n. same_cell (cell_at s v (i - 8)) (cell_at s v n)) back ∙ other)
+  first_differs h =
+      let first : at_slot 0 ≡ false = slot_reading 0 (i - 8) i (omega arith) (omega (arith, second)) (omega arith) ∙ h in
+      and_right (nat_le 7 (length (drop (i + 1) s))) (list_all at_slot (0 ∷ 1 ∷ 2 ∷ 3 ∷ 4 ∷ 5 ∷ 6 ∷ 7 ∷ []))
+      (ap (λ b. b && list_all at_slot (1 ∷ 2 ∷ 3 ∷ 4 ∷ 5 ∷ 6 ∷ 7 ∷ [])) first)
+
+  -- and so does one in whose middle there is another cell
+  pub middle_differs : same_cell (cell_at s v (i + 4 - 8)) (cell_at s v (i + 4)) ≡ false
+      → repeats_bar v (earlier s i) (slice_index_or s i []) (drop (i + 1) s) ≡ false
+  middle_differs h =
+      let middle : at_slot 4 ≡ false = slot_reading 4 (i + 4 - 8) (i + 4) (omega arith) (omega (arith, second))
+      (omega arith) ∙ h in
+      and_right (nat_le 7 (length (drop (i + 1) s))) (list_all at_slot (0 ∷ 1 ∷ 2 ∷ 3 ∷ 4 ∷ 5 ∷ 6 ∷ 7 ∷ []))
+      (and_right (at_slot 0) (list_all at_slot (1 ∷ 2 ∷ 3 ∷ 4 ∷ 5 ∷ 6 ∷ 7 ∷ []))
+      (and_right (at_slot 1) (list_all at_slot (2 ∷ 3 ∷ 4 ∷ 5 ∷ 6 ∷ 7 ∷ []))
+      (and_right (at_slot 2) (list_all at_slot (3 ∷ 4 ∷ 5 ∷ 6 ∷ 7 ∷ []))
+      (and_right (at_slot 3) (list_all at_slot (4 ∷ 5 ∷ 6 ∷ 7 ∷ []))
+      (ap (λ b. b && list_all at_slot (5 ∷ 6 ∷ 7 ∷ [])) middle)))))
 
 -- a bar that isn't whole repeats nothing
 pub part_reading : (s : List (List Cell)) (v i : ℕ) → length s < i + 8

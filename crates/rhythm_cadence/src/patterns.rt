@@ -56,19 +56,20 @@ fn same_cells(a: &[Cell; 8], b: &[Cell; 8]) -> bool
         && a[0].is_same(b[0])
 }
 
-/// Whether a voice has the cell at column `i` that it had eight columns before.
+/// Whether a voice has at column `i` the cell that it had a bar before.
 #[inline]
-fn repeats_first<C: ColumnsAround>(around: &C, ex: &Exercise, i: usize, v: u8) -> bool
+fn repeats_cell<C: ColumnsAround>(around: &C, ex: &Exercise, i: usize, v: u8) -> bool
     requires voices { ex.now.voices ≤ 4 }
     requires second { 8 ≤ i }
     ensures { (s : Columns) (first : ℕ) → C.show around.now ex.now s first → first ≤ i - 8 →
         result ≡ same_cell (cell_at s v (i - 8)) (cell_at s v i) }
 {
-    cell_around(around, ex, v, i - 8).is_same(cell_around(around, ex, v, i))
+    let before = cell_around(around, ex, v, i - 8);
+    before.is_same(cell_around(around, ex, v, i))
 }
 
-/// Whether the bar that begins at column `i` is whole and repeats the bar before. Mostly its first
-/// cell is another, and then no more is read.
+/// Whether the bar that begins at column `i` is whole and repeats the bar before. Where its first
+/// cell, or the one in its middle, is another than then, no more of the bars is read.
 fn repeats_bar<C: ColumnsAround>(around: &C, ex: &Exercise, i: usize, v: u8) -> bool
     requires voices { ex.now.voices ≤ 4 }
     requires second { 8 ≤ i }
@@ -80,7 +81,10 @@ fn repeats_bar<C: ColumnsAround>(around: &C, ex: &Exercise, i: usize, v: u8) -> 
     if i + 8 > around.count() {
         return false;
     }
-    if !repeats_first(around, ex, i, v) {
+    if !repeats_cell(around, ex, i, v) {
+        return false;
+    }
+    if !repeats_cell(around, ex, i + 4, v) {
         return false;
     }
     same_cells(
