@@ -15,7 +15,7 @@ use crate::reading::is_strictly_broken;
 use crate::state::State;
 use crate::tolls::{charge_of_voice, charges_of_pairs};
 use crate::verdict::moment_of;
-use fux_grid::{Column, Exercise, VoiceSet, cell_of, is_mixed};
+use fux_grid::{Column, Exercise, VoiceSet, cell_of, species_of};
 use melody_rules::is_smooth_in;
 use penalty_sheet::Sheet;
 use rhythm_cadence::leaves_last_shape;
@@ -137,22 +137,14 @@ fn breaks_with_lower(voice: usize, m: &Moment<'_>) -> bool
     false
 }
 
-/// Whether each voice has one shape in the column's bar, as in species 1 to 3 from the second bar
-/// on: then no cell of a menu leaves it. Where this errs a question more is asked, or one less, and
-/// what is told holds.
-#[inline]
-fn have_one_shape(m: &Moment<'_>) -> bool {
-    m.exercise.species <= 3 && m.state.newest.len >= 8 && !is_mixed(m.exercise)
-}
-
-/// Whether a voice leaves the last of the shapes that it may still have in its bar. Where each has
-/// one it isn't asked.
+/// Whether a voice leaves the last of the shapes that it may still have in its bar. It is asked in
+/// fifth species alone, since in the others each start of a menu goes on with a shape.
 fn leaves_shapes(voice: usize, m: &Moment<'_>) -> bool
     requires voice { voice < 4 }
     requires readable { IsReadable m.now }
     ensures { OnTrue result (IsDeadWithin (voice + 1) m.now) }
 {
-    if have_one_shape(m) {
+    if species_of(m.exercise, voice as u8) != 5 {
         return false;
     }
     let cell = cell_of(m.column, voice);
