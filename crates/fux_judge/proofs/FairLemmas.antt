@@ -21,7 +21,7 @@ use Rattle.fux_judge.specs.declared.state.State.{State}
 use Rattle.fux_judge.specs.Moments.{IsAfter, is_broken_then, is_strict_break_then}
 use Rattle.fux_judge.specs.Penalties.{is_strict_at}
 use Rattle.fux_judge.specs.Always.{IsSound}
-use Rattle.fux_judge.specs.Pruning.{IsFairAt, IsFairVoice, IsFairWithin, IsToldAt, IsToldColumn, move_unfairly}
+use Rattle.fux_judge.specs.Pruning.{IsFair, IsFairAt, IsFairVoice, IsFairWithin, IsToldAt, IsToldColumn, move_unfairly}
 use Rattle.fux_judge.specs.States.{IsStateOf}
 use Rattle.fux_judge.proofs.MomentLemmas.{motion_then}
 use Rattle.fux_judge.proofs.PruningLemmas.{settled_at_once}
@@ -184,22 +184,23 @@ module _ (ex : Exercise) (state : State) (col : List Cell) (m : Moment) (of : m.
           (subst (λ (s : State). P ex s.newest.len m.column.now) (sym its)
           (subst (λ c. P ex state.newest.len c) (sym same) h))
 
-  fair_here : ((p : List (List Cell)) → IsStateOf ex p state → IsAfter p m) → (v : ℕ) → IsFairAt v m
-      → ex.relax ≡ [] → (p : List (List Cell)) → IsStateOf ex p state → IsFairVoice ex p col v
-  fair_here after v at nothing p is =
-      subst (λ c. IsFairVoice ex p c v) same
-      (subst (λ e. IsFairVoice e p m.column.now v) of
-      (at (ap (λ (e : Exercise). e.relax) of ∙ nothing) p (after p is)))
+-- what two voices of a moment do, they do in its exercise and its column
+pub pair_here : (ex : Exercise) (col : List Cell) (m : Moment) → m.exercise.now ≡ ex → m.column.now ≡ col
+    → (p : List (List Cell)) (v w : ℕ)
+    → move_unfairly m.exercise.now (newest_column (reverse p)) m.column.now v w ≡ false
+    → move_unfairly ex (newest_column (reverse p)) col v w ≡ false
+pair_here ex col m of same p v w fair =
+    subst (λ (d : List Cell). move_unfairly ex (newest_column (reverse p)) d v w ≡ false) same
+    (subst (λ (e : Exercise). move_unfairly e (newest_column (reverse p)) m.column.now v w ≡ false) of fair)
 
-  -- one voice more, which was tried before or is fair at the moment
-  pub fair_more : ((p : List (List Cell)) → IsStateOf ex p state → IsAfter p m) → (voice tried : ℕ)
-      → IsFairWithin tried ex state col → IsFairWithin voice ex state col → (tried ≤ voice → IsFairAt voice m)
-      → IsFairWithin (voice + 1) ex state col
-  fair_more after voice tried told old own = λ nothing p is v lt.
-      ⊎_elim (λ less. old nothing p is v less)
-      (λ more.
-      let here : v ≡ voice = omega (arith, lt, more) in
-      subst (λ (w : ℕ). IsFairVoice ex p col w) (sym here)
-      (⊎_elim (λ less. told nothing p is voice less)
-      (λ le. fair_here after voice (own le) nothing p is) (cases_lt voice tried)))
-      (cases_lt v voice)
+-- one voice more, which was tried before or is fair
+pub fair_more : (ex : Exercise) (state : State) (col : List Cell) (voice tried : ℕ) → IsFairWithin tried ex state col
+    → IsFairWithin voice ex state col → (tried ≤ voice → IsFair voice ex state col)
+    → IsFairWithin (voice + 1) ex state col
+fair_more ex state col voice tried told old own = λ nothing p is v lt.
+    ⊎_elim (λ less. old nothing p is v less)
+    (λ more.
+    let here : v ≡ voice = omega (arith, lt, more) in
+    subst (λ (w : ℕ). IsFairVoice ex p col w) (sym here)
+    (⊎_elim (λ less. told nothing p is voice less) (λ le. own le nothing p is) (cases_lt voice tried)))
+    (cases_lt v voice)

@@ -1,5 +1,5 @@
 -- A strict break of the first voices is one in each column that has their cells.
-use Rattle.std.proofs.Common.{◌≡◌, ℕ, ◌==◌, ◌&&◌, ◌||◌, Bool, true, false, Option, Some, None, List, [], ◌∷◌, ◌++◌, length, reverse, refl, ap, sym, ◌∙◌}
+use Rattle.std.proofs.Common.{◌≡◌, ℕ, ◌==◌, ◌&&◌, ◌||◌, Bool, true, false, Option, Some, None, List, [], ◌∷◌, ◌++◌, length, reverse, refl, ap, sym, ◌∙◌, subst}
 use Rattle.std.specs.Prelude.{if◌then◌else◌, not}
 use Rattle.std.specs.List.{list_any, list_all}
 use Rattle.std.proofs.lemmas.Bool.{eqb-true, not-true}
@@ -25,6 +25,8 @@ use Rattle.melody_rules.specs.Book as melody_book
 use Rattle.motion_rules.specs.Book as motion_book
 use Rattle.dissonance_rules.specs.Book as dissonance_book
 use Rattle.rhythm_cadence.specs.Book as rhythm_book
+use Rattle.fux_judge.specs.declared.moment.Moment.{Moment}
+use Rattle.fux_judge.specs.Moments.{is_strict_break_then}
 use Rattle.fux_judge.specs.Crates.{RuleCrate, Melody, Motion, Dissonance, Rhythm, Doubling, crate_with}
 use Rattle.fux_judge.specs.Rules.{rules_read, all_sets, is_late, is_read, rule_at, breaks, is_broken}
 use Rattle.fux_judge.proofs.CrateLemmas.{late_by_crate, not_shape, rule_of_crate, soon_in_dissonance, soon_in_motion, soon_in_rhythm}
@@ -175,3 +177,12 @@ module _ (rule voices n : ℕ) (ex : Exercise) (p : List (List Cell)) (col : Lis
       (newly_broken-at_once ex p other rule (settled_at_once rule reads)
       ∙ some_of test voices all_sets (set_there voices known)
       (ap (λ b. b && is_strict_at rule ex voices (length p)) moved ∙ strict))
+
+-- and so it does where the break is read at a moment of these
+pub breaks_here : (rule voices n : ℕ) (ex : Exercise) (p : List (List Cell)) (col : List Cell) (m : Moment)
+    → m.exercise.now ≡ ex → m.column.now ≡ col → reads_below rule ≡ true → is_set_below n voices ≡ true
+    → is_strict_break_then rule voices p m ≡ true → AllBreak n ex p col
+breaks_here rule voices n ex p col m of same reads below strict =
+    subst (λ (d : List Cell). AllBreak n ex p d) same
+    (subst (λ (e : Exercise). AllBreak n e p m.column.now) of
+    (breaks_in_all rule voices n m.exercise.now p m.column.now reads below strict))

@@ -36,13 +36,13 @@ is_set_below n voices = list_any (λ other. voices == other) sets_below && is_be
 abbrev pub AllBreak : ℕ → Exercise → List (List Cell) → List Cell → Type 0
 AllBreak n ex p col = (other : List Cell) → take n other ≡ take n col → settles_break ex p other ≡ true
 
--- at the moment, after each prefix that it may come after
-abbrev pub IsDeadWithin : ℕ → Moment → Type 0
-IsDeadWithin n m = (p : List (List Cell)) → IsAfter p m → AllBreak n m.exercise.now p m.column.now
+-- after whatever prefix the state is of
+abbrev pub IsDeadWithin : ℕ → Exercise → State → List Cell → Type 0
+IsDeadWithin n ex state col = (p : Columns) → IsStateOf ex p state → AllBreak n ex p col
 
 -- and by a set of voices, among however many first ones it is
-abbrev pub IsDeadBy : ℕ → Moment → Type 0
-IsDeadBy voices m = (n : ℕ) → IsTrue (is_set_below n voices) → IsDeadWithin n m
+abbrev pub IsDeadBy : ℕ → Exercise → State → List Cell → Type 0
+IsDeadBy voices ex state col = (n : ℕ) → IsTrue (is_set_below n voices) → IsDeadWithin n ex state col
 
 -- after the prefix the column settles a strict break, or costs no less than a limit, where there is
 -- one
@@ -68,23 +68,21 @@ pub record IsFairVoice (ex : Exercise) (p : List (List Cell)) (col : List Cell) 
   pub melody : is_rough_at ex (reverse p) col voice ≡ false
   pub motion : (lower : ℕ) → lower < voice → move_unfairly ex (newest_column (reverse p)) col lower voice ≡ false
 
--- where nothing is relaxed, it keeps the latter with a lower one at the moment, after each prefix
--- that it may come after
-abbrev pub IsFairPairAt : ℕ → ℕ → Moment → Type 0
-IsFairPairAt lower voice m =
-    m.exercise.now.relax ≡ [] → (p : List (List Cell)) → IsAfter p m
-    → move_unfairly m.exercise.now (newest_column (reverse p)) m.column.now lower voice ≡ false
+-- where nothing is relaxed, it keeps the latter with a lower one, after whatever prefix the state
+-- is of
+abbrev pub IsFairPair : ℕ → ℕ → Exercise → State → List Cell → Type 0
+IsFairPair lower voice ex state col =
+    ex.relax ≡ [] → (p : Columns) → IsStateOf ex p state
+    → move_unfairly ex (newest_column (reverse p)) col lower voice ≡ false
 
 -- so it keeps the rules of melody
-abbrev pub IsSmoothAt : ℕ → Moment → Type 0
-IsSmoothAt v m =
-    m.exercise.now.relax ≡ [] → (p : List (List Cell)) → IsAfter p m
-    → is_rough_at m.exercise.now (reverse p) m.column.now v ≡ false
+abbrev pub IsSmooth : ℕ → Exercise → State → List Cell → Type 0
+IsSmooth v ex state col =
+    ex.relax ≡ [] → (p : Columns) → IsStateOf ex p state → is_rough_at ex (reverse p) col v ≡ false
 
 -- and all of them
-abbrev pub IsFairAt : ℕ → Moment → Type 0
-IsFairAt v m =
-    m.exercise.now.relax ≡ [] → (p : List (List Cell)) → IsAfter p m → IsFairVoice m.exercise.now p m.column.now v
+abbrev pub IsFair : ℕ → Exercise → State → List Cell → Type 0
+IsFair v ex state col = ex.relax ≡ [] → (p : Columns) → IsStateOf ex p state → IsFairVoice ex p col v
 
 -- where nothing is relaxed, the first voices of a column do, after whatever prefix the state is of
 abbrev pub IsFairWithin : ℕ → Exercise → State → List Cell → Type 0
@@ -97,7 +95,13 @@ pub record IsToldColumn (ex : Exercise) (state : State) (col : List Cell) : Type
   pub fair : IsFairWithin 4 ex state col
   pub sound : IsSound ex state.newest.len col
 
--- and at the moment of a column of the menu
+-- where nothing is relaxed, a voice of a moment's column is fair, after each prefix that the moment
+-- may come after
+abbrev pub IsFairAt : ℕ → Moment → Type 0
+IsFairAt v m =
+    m.exercise.now.relax ≡ [] → (p : List (List Cell)) → IsAfter p m → IsFairVoice m.exercise.now p m.column.now v
+
+-- the same is told at the moment of a column of the menu
 pub record IsToldAt (m : Moment) : Type 0 where
   pub fair : (v : ℕ) → v < 4 → IsFairAt v m
   pub sound : IsSound m.exercise.now m.state.now.newest.len m.column.now

@@ -2,15 +2,15 @@
 
 ghost use Rattle.std.specs.Prelude.{◌≡◌, ◌≤◌, ◌<◌, ◌+◌, ◌-◌, ℕ, Some, IsSomeAnd, IsTrue, IfNone, IfSome, length};
 ghost use Rattle.std.specs.Bool.{OnTrue, OnFalse};
-ghost use Rattle.std.specs.List.{list_all};
+ghost use Rattle.std.specs.List.{list_all, sum_by};
 ghost use Rattle.fux_grid.specs.Columns.{Columns};
 ghost use Rattle.fux_grid.specs.Exercises.{IsValid, columns_in};
 ghost use Rattle.rule_law.specs.Voices.{pair_of as both_voices, voice_of as one_voice};
-ghost use Rattle.fux_judge.specs.Charges.{voice_charge};
-ghost use Rattle.fux_judge.specs.Moments.{IsAfter, IsReadable, pairs_then};
-ghost use Rattle.fux_judge.specs.Pruning.{IsDeadBy, IsDeadWithin, IsFairAt, IsFairPairAt, IsFairWithin, IsSmoothAt, PrunesWithin, is_set_below, reads_below};
+ghost use Rattle.fux_judge.specs.Charges.{tolls_of_pairs, voice_charge};
+ghost use Rattle.fux_judge.specs.Pruning.{IsDeadBy, IsDeadWithin, IsFair, IsFairPair, IsFairWithin, IsSmooth, PrunesWithin, is_set_below, reads_below};
+ghost use Rattle.fux_judge.specs.States.{IsStateOf};
+ghost use Rattle.fux_judge.specs.Steps.{toll_at_end};
 
-use crate::moment::Moment;
 use crate::reading::is_strictly_broken;
 use crate::state::State;
 use crate::tolls::{charge_of_voice, charges_of_pairs};
@@ -58,13 +58,15 @@ fn both(lower: usize, upper: usize) -> VoiceSet
 }
 
 /// Whether one of these rules is strictly broken for a set of voices.
-fn breaks_one(rules: &[u8], voices: VoiceSet, m: &Moment<'_>) -> bool
+fn breaks_one(rules: &[u8], voices: VoiceSet, ex: &Exercise, state: &State, col: &Column) -> bool
     requires rules { IsTrue (list_all reads_below rules.now) }
-    requires readable { IsReadable m.now }
-    ensures { OnTrue result (IsDeadBy voices.bits m.now) }
+    requires valid { IsValid ex.now }
+    requires room { state.now.newest.len < columns_in ex.now }
+    ensures { OnTrue result (IsDeadBy voices.bits ex.now state.now col.now.items) }
 {
+    let moment = moment_of(ex, state, col);
     for rule in rules {
-        if is_strictly_broken(*rule, voices, m) {
+        if is_strictly_broken(*rule, voices, &moment) {
             return true;
         }
     }
@@ -73,64 +75,72 @@ fn breaks_one(rules: &[u8], voices: VoiceSet, m: &Moment<'_>) -> bool
 
 /// Whether a voice alone breaks a rule strictly: one of melody. Where nothing is relaxed, it
 /// doesn't matter which.
-fn breaks_alone(voice: u8, voices: VoiceSet, m: &Moment<'_>) -> bool
+fn breaks_alone(voice: u8, voices: VoiceSet, ex: &Exercise, state: &State, col: &Column) -> bool
     requires low { voice < 4 }
     requires alone { one_voice voices.bits ≡ Some voice }
-    requires readable { IsReadable m.now }
-    ensures dead { OnTrue result (IsDeadBy voices.bits m.now) }
-    ensures smooth { OnFalse result (IsSmoothAt voice m.now) }
+    requires valid { IsValid ex.now }
+    requires room { state.now.newest.len < columns_in ex.now }
+    ensures dead { OnTrue result (IsDeadBy voices.bits ex.now state.now col.now.items) }
+    ensures smooth { OnFalse result (IsSmooth voice ex.now state.now col.now.items) }
 {
-    if is_smooth_in(m.exercise, &m.state.past.parts.first, m.column, voice) {
+    let cells = col.as_slice();
+    if is_smooth_in(ex, &state.past.parts.first, cells, voice) {
         return false;
     }
-    if m.exercise.relax.as_slice().is_empty() {
+    if ex.relax.as_slice().is_empty() {
         return true;
     }
-    breaks_one(&WHERE_IT_STARTS, voices, m)
+    breaks_one(&WHERE_IT_STARTS, voices, ex, state, col)
 }
 
 /// Whether two voices break S16 or S17 strictly.
-fn breaks_motion(lower: usize, upper: usize, m: &Moment<'_>) -> bool
+fn breaks_motion(lower: usize, upper: usize, ex: &Exercise, state: &State, col: &Column) -> bool
     requires order { lower < upper }
     requires upper { upper < 4 }
-    requires readable { IsReadable m.now }
-    ensures dead { OnTrue result (IsDeadWithin (upper + 1) m.now) }
-    ensures fair { OnFalse result (IsFairPairAt lower upper m.now) }
+    requires valid { IsValid ex.now }
+    requires room { state.now.newest.len < columns_in ex.now }
+    ensures dead { OnTrue result (IsDeadWithin (upper + 1) ex.now state.now col.now.items) }
+    ensures fair { OnFalse result (IsFairPair lower upper ex.now state.now col.now.items) }
 {
+    let moment = moment_of(ex, state, col);
     let voices = both(lower, upper);
-    if is_strictly_broken(16, voices, m) {
+    if is_strictly_broken(16, voices, &moment) {
         return true;
     }
-    is_strictly_broken(17, voices, m)
+    is_strictly_broken(17, voices, &moment)
 }
 
 /// Whether two voices break a rule strictly by moving together, which takes a perfect interval in
 /// which both start.
-fn breaks_together(lower: usize, upper: usize, m: &Moment<'_>) -> bool
+fn breaks_together(lower: usize, upper: usize, ex: &Exercise, state: &State, col: &Column) -> bool
     requires order { lower < upper }
     requires upper { upper < 4 }
-    requires readable { IsReadable m.now }
-    ensures dead { OnTrue result (IsDeadWithin (upper + 1) m.now) }
-    ensures fair { OnFalse result (IsFairPairAt lower upper m.now) }
+    requires valid { IsValid ex.now }
+    requires room { state.now.newest.len < columns_in ex.now }
+    ensures dead { OnTrue result (IsDeadWithin (upper + 1) ex.now state.now col.now.items) }
+    ensures fair { OnFalse result (IsFairPair lower upper ex.now state.now col.now.items) }
 {
-    if !starts(cell_of(m.column, lower)) {
+    let cells = col.as_slice();
+    if !starts(cell_of(cells, lower)) {
         return false;
     }
-    if !sound_perfect(m.column, lower, upper) {
+    if !sound_perfect(cells, lower, upper) {
         return false;
     }
-    breaks_motion(lower, upper, m)
+    breaks_motion(lower, upper, ex, state, col)
 }
 
 /// Whether a voice that starts a note breaks a rule strictly by moving with a lower one.
-fn breaks_with_lower(voice: usize, m: &Moment<'_>) -> bool
+fn breaks_with_lower(voice: usize, ex: &Exercise, state: &State, col: &Column) -> bool
     requires voice { voice < 4 }
-    requires readable { IsReadable m.now }
-    ensures dead { OnTrue result (IsDeadWithin (voice + 1) m.now) }
-    ensures fair { OnFalse result ((lower : ℕ) → lower < voice → IsFairPairAt lower voice m.now) }
+    requires valid { IsValid ex.now }
+    requires room { state.now.newest.len < columns_in ex.now }
+    ensures dead { OnTrue result (IsDeadWithin (voice + 1) ex.now state.now col.now.items) }
+    ensures fair { OnFalse result ((lower : ℕ) → lower < voice →
+        IsFairPair lower voice ex.now state.now col.now.items) }
 {
     for lower in 0..voice {
-        if breaks_together(lower, voice, m) {
+        if breaks_together(lower, voice, ex, state, col) {
             return true;
         }
     }
@@ -139,19 +149,21 @@ fn breaks_with_lower(voice: usize, m: &Moment<'_>) -> bool
 
 /// Whether a voice leaves the last of the shapes that it may still have in its bar. It is asked in
 /// fifth species alone, since in the others each start of a menu goes on with a shape.
-fn leaves_shapes(voice: usize, m: &Moment<'_>) -> bool
+fn leaves_shapes(voice: usize, ex: &Exercise, state: &State, col: &Column) -> bool
     requires voice { voice < 4 }
-    requires readable { IsReadable m.now }
-    ensures { OnTrue result (IsDeadWithin (voice + 1) m.now) }
+    requires valid { IsValid ex.now }
+    requires room { state.now.newest.len < columns_in ex.now }
+    ensures { OnTrue result (IsDeadWithin (voice + 1) ex.now state.now col.now.items) }
 {
-    if species_of(m.exercise, voice as u8) != 5 {
+    if species_of(ex, voice as u8) != 5 {
         return false;
     }
-    let cell = cell_of(m.column, voice);
+    let cells = col.as_slice();
+    let cell = cell_of(cells, voice);
     if leaves_last_shape(
-        &m.state.past.parts.second.second.second.first,
-        m.exercise,
-        m.state.newest.len,
+        &state.past.parts.second.second.second.first,
+        ex,
+        state.newest.len,
         cell,
         voice as u8,
     ) {
@@ -160,38 +172,43 @@ fn leaves_shapes(voice: usize, m: &Moment<'_>) -> bool
     false
 }
 
-/// Whether a voice breaks a rule strictly, alone or with a lower one. Its shapes are asked first,
-/// which takes least.
-fn breaks_with(voice: usize, m: &Moment<'_>) -> bool
+/// Whether a voice that starts a note breaks a rule strictly, alone or with a lower one. Its shapes
+/// are asked first, which takes least. What is known of the prefix is put together only where two
+/// voices move to a perfect interval, which few do.
+fn breaks_with(voice: usize, ex: &Exercise, state: &State, col: &Column) -> bool
     requires voice { voice < 4 }
-    requires readable { IsReadable m.now }
-    ensures dead { OnTrue result (IsDeadWithin (voice + 1) m.now) }
-    ensures fair { OnFalse result (IsFairAt voice m.now) }
+    requires valid { IsValid ex.now }
+    requires room { state.now.newest.len < columns_in ex.now }
+    ensures dead { OnTrue result (IsDeadWithin (voice + 1) ex.now state.now col.now.items) }
+    ensures fair { OnFalse result (IsFair voice ex.now state.now col.now.items) }
 {
-    if !starts(cell_of(m.column, voice)) {
-        return false;
-    }
-    if leaves_shapes(voice, m) {
+    if leaves_shapes(voice, ex, state, col) {
         return true;
     }
-    if breaks_alone(voice as u8, alone(voice), m) {
+    if breaks_alone(voice as u8, alone(voice), ex, state, col) {
         return true;
     }
-    breaks_with_lower(voice, m)
+    breaks_with_lower(voice, ex, state, col)
 }
 
-/// The same of a voice that wasn't tried.
-#[inline]
-fn breaks_untried(voice: usize, tried: usize, m: &Moment<'_>) -> bool
+/// Whether a voice that wasn't tried breaks a rule strictly, alone or with a lower one; it may start
+/// no note.
+#[inline(always)]
+fn breaks_untried(voice: usize, tried: usize, ex: &Exercise, state: &State, col: &Column) -> bool
     requires voice { voice < 4 }
-    requires readable { IsReadable m.now }
-    ensures dead { OnTrue result (IsDeadWithin (voice + 1) m.now) }
-    ensures fair { OnFalse result (tried ≤ voice → IsFairAt voice m.now) }
+    requires valid { IsValid ex.now }
+    requires room { state.now.newest.len < columns_in ex.now }
+    ensures dead { OnTrue result (IsDeadWithin (voice + 1) ex.now state.now col.now.items) }
+    ensures fair { OnFalse result (tried ≤ voice → IsFair voice ex.now state.now col.now.items) }
 {
     if voice < tried {
         return false;
     }
-    breaks_with(voice, m)
+    let cells = col.as_slice();
+    if !starts(cell_of(cells, voice)) {
+        return false;
+    }
+    breaks_with(voice, ex, state, col)
 }
 
 /// Whether a cost reaches the limit, where there is one.
@@ -205,29 +222,71 @@ fn reaches(cost: u64, limit: Option<u64>) -> bool
     }
 }
 
+/// What a voice's move costs by the tolls of melody, whether a limit asks it or not.
+#[inline(always)]
+fn charge_of(ex: &Exercise, sheet: &Sheet, state: &State, col: &Column, voice: usize) -> u64
+    requires voice { voice < 4 }
+    requires few { ex.now.voices ≤ 4 }
+    ensures value { (p : Columns) → IsStateOf ex.now p state.now
+        → result ≡ voice_charge ex.now sheet.now p col.now.items voice }
+    ensures bound { result ≤ 131070 }
+{
+    let moment = moment_of(ex, state, col);
+    charge_of_voice(sheet, &moment, voice)
+}
+
 /// What a voice's move costs by the tolls of melody; nothing where no limit asks it.
-#[inline]
-fn charge_for(limit: Option<u64>, sheet: &Sheet, m: &Moment<'_>, voice: usize) -> u64
-    requires { voice < 4 }
-    ensures value { (p : Columns) → IsAfter p m.now → result ≤ voice_charge m.now.exercise.now
-        sheet.now p m.now.column.now voice }
+#[inline(always)]
+fn charge_for(
+    limit: Option<u64>,
+    ex: &Exercise,
+    sheet: &Sheet,
+    state: &State,
+    col: &Column,
+    voice: usize,
+) -> u64
+    requires voice { voice < 4 }
+    requires few { ex.now.voices ≤ 4 }
+    ensures value { (p : Columns) → IsStateOf ex.now p state.now
+        → result ≤ voice_charge ex.now sheet.now p col.now.items voice }
     ensures bound { result ≤ 131070 }
 {
     if limit.is_none() {
         return 0;
     }
-    charge_of_voice(sheet, m, voice)
+    charge_of(ex, sheet, state, col, voice)
+}
+
+/// What all voices cost together.
+fn charge_together(ex: &Exercise, sheet: &Sheet, state: &State, col: &Column) -> u64
+    requires valid { IsValid ex.now }
+    requires room { state.now.newest.len < columns_in ex.now }
+    ensures value { (p : Columns) → IsStateOf ex.now p state.now
+        → result ≡ sum_by (toll_at_end ex.now sheet.now p col.now.items) tolls_of_pairs }
+    ensures bound { result ≤ 1179630 }
+{
+    let moment = moment_of(ex, state, col);
+    charges_of_pairs(sheet, &moment)
 }
 
 /// Whether what all voices cost and what they cost together reach the limit, where there is one.
-fn costs_too_much(limit: Option<u64>, least: u64, sheet: &Sheet, m: &Moment<'_>) -> bool
+#[inline]
+fn costs_too_much(
+    limit: Option<u64>,
+    least: u64,
+    ex: &Exercise,
+    sheet: &Sheet,
+    state: &State,
+    col: &Column,
+) -> bool
     requires little { least ≤ 524280 }
-    requires readable { IsReadable m.now }
-    ensures { OnTrue result (IsSomeAnd limit (λ most. (p : Columns) → IsAfter p m.now → most ≤ least
-        + pairs_then sheet.now p m.now)) }
+    requires valid { IsValid ex.now }
+    requires room { state.now.newest.len < columns_in ex.now }
+    ensures { OnTrue result (IsSomeAnd limit (λ most. (p : Columns) → IsStateOf ex.now p state.now
+        → most ≤ least + sum_by (toll_at_end ex.now sheet.now p col.now.items) tolls_of_pairs)) }
 {
     match limit {
-        Some(most) => least + charges_of_pairs(sheet, m) >= most,
+        Some(most) => least + charge_together(ex, sheet, state, col) >= most,
         None => false,
     }
 }
@@ -265,19 +324,18 @@ pub fn pruned_within(
     if is_quiet(state.newest.len, col.as_slice()) {
         return None;
     }
-    let moment = moment_of(ex, state, col);
     let mut least = 0u64;
     for voice in 0..ex.voices as usize {
-        let charge = charge_for(limit, sheet, &moment, voice);
+        let charge = charge_for(limit, ex, sheet, state, col, voice);
         least += charge;
         if reaches(least, limit) {
             return Some(voice + 1);
         }
-        if breaks_untried(voice, tried, &moment) {
+        if breaks_untried(voice, tried, ex, state, col) {
             return Some(voice + 1);
         }
     }
-    if costs_too_much(limit, least, sheet, &moment) {
+    if costs_too_much(limit, least, ex, sheet, state, col) {
         return Some(ex.voices as usize);
     }
     None

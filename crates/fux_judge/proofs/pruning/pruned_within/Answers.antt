@@ -1,4 +1,4 @@
-use Rattle.std.proofs.Common.{◌≡◌, ◌+◌, ℕ, take, inr, ap, sym, ◌∙◌, subst, arith}
+use Rattle.std.proofs.Common.{◌≡◌, ◌+◌, ℕ, inr, ap, sym, ◌∙◌, subst, arith}
 use Rattle.std.proofs.lemmas.Bool.{OnTrue_at}
 use Rattle.std.proofs.lemmas.List.{take_all}
 use Rattle.rule_law.specs.Quiet.{is_quiet}
@@ -13,21 +13,19 @@ overflow_add-least c = omega (arith, c.charge_for-charge.ensures.bound)
 
 pub loop-voice-init : goal.loop-voice-init
 loop-voice-init c = record {
-  least = λ p after. omega arith;
+  least = λ p is. omega arith;
   fair = λ told nothing p is v lt. absurd (omega (arith, lt));
   small = omega arith;
 }
 
 pub loop-voice-preserved : goal.loop-voice-preserved
 loop-voice-preserved c = record {
-  least = λ p after.
-      one_voice_more c.moment_of-moment.result.exercise.now c.args.sheet.now p c.moment_of-moment.result.column.now
-      c.loop-voice.voice _ _ (c.loop-voice.invariant.least p after) (c.charge_for-charge.ensures.value p after);
+  least = λ p is.
+      one_voice_more c.args.ex.now c.args.sheet.now p c.args.col.now.items c.loop-voice.voice _ _
+      (c.loop-voice.invariant.least p is) (c.charge_for-charge.ensures.value p is);
   fair = λ told.
-      fair_more c.args.ex.now c.args.state.now c.args.col.now.items c.moment_of-moment.result
-      c.moment_of-moment.ensures.exercise c.moment_of-moment.ensures.state c.moment_of-moment.ensures.column
-      c.moment_of-moment.ensures.after c.loop-voice.voice c.args.tried told (c.loop-voice.invariant.fair told)
-      c.if-breaks_untried.ensures.fair;
+      fair_more c.args.ex.now c.args.state.now c.args.col.now.items c.loop-voice.voice c.args.tried told
+      (c.loop-voice.invariant.fair told) c.if-breaks_untried.ensures.fair;
   small = omega (arith, c.charge_for-charge.ensures.bound);
 }
 
@@ -36,45 +34,22 @@ costs_too_much-requires-clause-little c = omega arith
 
 pub returns-then-reaches-clause-pruned : goal.returns-then-reaches-clause-pruned
 returns-then-reaches-clause-pruned c = λ p is other long same.
-    let after = c.moment_of-moment.ensures.after p is in
-    let its : take (c.loop-voice.voice + 1) other
-    ≡ take (c.loop-voice.voice + 1) c.moment_of-moment.result.column.now = same
-    ∙ ap (take (c.loop-voice.voice + 1)) (sym c.moment_of-moment.ensures.column) in
-    let least = one_voice_more c.moment_of-moment.result.exercise.now c.args.sheet.now p
-    c.moment_of-moment.result.column.now c.loop-voice.voice _ _ (c.loop-voice.invariant.least p after)
-    (c.charge_for-charge.ensures.value p after) in
-    let settled = settles_first c.moment_of-moment.result.exercise.now c.args.sheet.now p
-    c.moment_of-moment.result.column.now other (c.loop-voice.voice + 1) (omega arith) its in
-    inr (reached c.args.limit
-    (λ (most : ℕ) h. omega (
-      arith,
-      least,
-      settled,
-      ap (λ e. newly_paid e c.args.sheet.now p other)
-          c.moment_of-moment.ensures.exercise,
-    ))
+    let least = one_voice_more c.args.ex.now c.args.sheet.now p c.args.col.now.items c.loop-voice.voice _ _
+    (c.loop-voice.invariant.least p is) (c.charge_for-charge.ensures.value p is) in
+    let settled = settles_first c.args.ex.now c.args.sheet.now p c.args.col.now.items other (c.loop-voice.voice + 1)
+    (omega arith) same in
+    inr (reached c.args.limit (λ (most : ℕ) h. omega (arith, least, settled))
     (OnTrue_at c.if-reaches.true c.reaches.ensures))
 
 pub returns-then-costs_too_much-clause-pruned : goal.returns-then-costs_too_much-clause-pruned
 returns-then-costs_too_much-clause-pruned c = λ p is other long same.
-    let after = c.moment_of-moment.ensures.after p is in
-    let its : other ≡ c.moment_of-moment.result.column.now =
+    let its : other ≡ c.args.col.now.items =
     sym (take_all c.args.ex.now.voices other (omega arith)) ∙ same
-    ∙ take_all c.args.ex.now.voices c.args.col.now.items (omega arith) ∙ sym c.moment_of-moment.ensures.column in
-    let least = c.loop-voice.invariant.least p after in
-    let settled = settles_all c.moment_of-moment.result.exercise.now c.args.sheet.now p
-    c.moment_of-moment.result.column.now c.loop-voice.voice (omega arith) in
+    ∙ take_all c.args.ex.now.voices c.args.col.now.items (omega arith) in
+    let least = c.loop-voice.invariant.least p is in
+    let settled = settles_all c.args.ex.now c.args.sheet.now p c.args.col.now.items c.loop-voice.voice (omega arith) in
     inr (reached c.args.limit
-    (λ (most : ℕ) h. omega (
-      arith,
-      h p after,
-      least,
-      settled,
-      ap (λ e. newly_paid e c.args.sheet.now p other)
-          c.moment_of-moment.ensures.exercise,
-      ap (newly_paid c.moment_of-moment.result.exercise.now c.args.sheet.now p)
-          its,
-    ))
+    (λ (most : ℕ) h. omega (arith, h p is, least, settled, ap (newly_paid c.args.ex.now c.args.sheet.now p) its))
     (OnTrue_at c.if-costs_too_much.true c.costs_too_much.ensures))
 
 pub returns-then-is_quiet-clause-fair : goal.returns-then-is_quiet-clause-fair
