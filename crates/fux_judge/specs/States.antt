@@ -26,7 +26,12 @@ pub record IsStateOf (ex : Exercise) (p : List (List Cell)) (state : State) : Ty
   pub gauges : AreGaugesOf ex (reverse p) state.gauges
   pub ahead : AreAheadOf ex p state.ahead
 
--- the state is of a prefix with one column more, which was orderly before it
+-- so far as rules and tolls read it: the gauges may be of another prefix
+pub record IsReadOf (ex : Exercise) (p : List (List Cell)) (state : State) : Type 0 where
+  pub newest : AreNewestOf ex.voices p state.newest
+  pub past : IsPastOf ex p state.past
+
+-- so far it is of a prefix with one column more, which was orderly before it
 pub record HasCome (ex : Exercise) (state : State) (p : List (List Cell)) (col : List Cell) : Type 0 where
-  pub reached : IsStateOf ex (p ++ col ∷ []) state
+  pub reached : IsReadOf ex (p ++ col ∷ []) state
   pub on : GoesOn ex p (col ∷ [])

@@ -6,7 +6,7 @@ ghost use Rattle.fux_grid.specs.declared.exercise.Exercise.{Exercise as AnExerci
 ghost use Rattle.fux_grid.specs.Columns.{newest_column};
 ghost use Rattle.fux_grid.specs.Exercises.{IsValid, columns_in};
 ghost use Rattle.fux_grid.specs.Menus.{IsInMenu};
-ghost use Rattle.fux_judge.specs.States.{IsStateOf};
+ghost use Rattle.fux_judge.specs.States.{IsReadOf, IsStateOf};
 ghost use Rattle.fux_judge.specs.Still.{IsStillPlace};
 ghost use Rattle.fux_judge.specs.Verdicts.{Grown};
 
@@ -58,6 +58,43 @@ impl State {
         gauge_all(ex, i, &mut self.gauges, cells);
         pass_all(ex, i, &mut self.ahead, cells);
         self.newest.push(cells);
+    }
+
+    /// Takes over from another state what rules and tolls read of its prefix, and adds a column
+    /// behind it. What is kept of the lines stays, whatever it is of.
+    #[inline(always)]
+    pub(crate) fn read_on(&mut self, ex: &Exercise, state: &State, col: &Column)
+        requires valid { IsValid ex.now }
+        requires room { state.now.newest.len < columns_in ex.now }
+        requires full { length col.now.items ≡ ex.now.voices }
+        ensures read { Grown ex.now state.now col.now.items (λ longer. IsReadOf ex.now longer
+            self.new) }
+        ensures length { self.new.newest.len ≡ state.now.newest.len + 1 }
+    {
+        let cells = col.as_slice();
+        let i = state.newest.len;
+        self.newest = state.newest;
+        self.past = state.past;
+        self.past.note(ex, i, cells);
+        self.newest.push(cells);
+    }
+
+    /// Takes over what is kept of the lines, and takes the column in there too.
+    #[inline(always)]
+    pub(crate) fn weigh_on(&mut self, ex: &Exercise, state: &State, col: &Column)
+        requires valid { IsValid ex.now }
+        requires room { state.now.newest.len < columns_in ex.now }
+        requires full { length col.now.items ≡ ex.now.voices }
+        ensures state { Grown ex.now state.now col.now.items (λ longer.
+            IsReadOf ex.now longer self.old → IsStateOf ex.now longer self.new) }
+        ensures length { self.new.newest.len ≡ self.old.newest.len }
+    {
+        let cells = col.as_slice();
+        let i = state.newest.len;
+        self.gauges = state.gauges;
+        self.ahead = state.ahead;
+        gauge_all(ex, i, &mut self.gauges, cells);
+        pass_all(ex, i, &mut self.ahead, cells);
     }
 
     /// Adds a column of the menu of a place at which nothing can begin: there what the crates of

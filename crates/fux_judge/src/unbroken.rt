@@ -82,8 +82,7 @@ pub fn step_unbroken(
         IfSome result (λ it. it.least ≡ least_of ex.now sheet.now longer)) }
     ensures least_bound { IfSome result (λ it. it.least ≤ 334490640) }
 {
-    *next = *state;
-    next.add(ex, col);
+    next.read_on(ex, state, col);
     if settles_late_break(ex, idle, next) {
         return None;
     }
@@ -92,6 +91,7 @@ pub fn step_unbroken(
     if has_some(at_once) {
         return None;
     }
+    next.weigh_on(ex, state, col);
     let own = known_charge(own, ex, sheet, state.newest.len, col);
     let paid = paid + own + late_charges(sheet, ex, next) + late_prices(ex, next);
     let least = least(ex, sheet, next);

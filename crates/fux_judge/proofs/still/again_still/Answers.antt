@@ -5,6 +5,7 @@ use Rattle.fux_judge.specs.Still.{IsStillPlace}
 use Rattle.fux_judge.proofs.Grows.{paid_grows}
 use Rattle.fux_judge.proofs.StillLemmas.{least_still, still_is_quiet}
 use Rattle.fux_judge.proofs.StillSteps.{still_pays}
+use Rattle.fux_judge.proofs.StateLemmas.{come_behind}
 use Rattle.fux_judge.proofs.still.again_still.Goals as goal
 
 pub returns-clause-settled : goal.returns-clause-settled
@@ -14,8 +15,8 @@ returns-clause-settled c = λ p st on.
     let still = subst (λ (i : ℕ). IsStillPlace ex i) st.newest.count c.requires.still in
     let menu = subst (λ (i : ℕ). IsInMenu ex i col) st.newest.count c.requires.menu in
     still_pays ex p col on (still_is_quiet ex (length p) still col menu) c.requires.valid.cantus_there c.args.sheet.now _ _
-    (c.pattern_charge.ensures.value p col record { reached = c.add_still.ensures.state p st; on = on })
-    (c.late_prices.ensures.value p col record { reached = c.add_still.ensures.state p st; on = on })
+    (c.pattern_charge.ensures.value p col (come_behind (c.add_still.ensures.state p st) on))
+    (c.late_prices.ensures.value p col (come_behind (c.add_still.ensures.state p st) on))
 
 pub returns-clause-paid : goal.returns-clause-paid
 returns-clause-paid c = λ p st on.

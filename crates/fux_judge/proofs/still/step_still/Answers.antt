@@ -6,6 +6,7 @@ use Rattle.fux_judge.specs.Still.{IsStillPlace}
 use Rattle.fux_judge.proofs.Grows.{paid_grows}
 use Rattle.fux_judge.proofs.StillLemmas.{least_still, still_is_quiet}
 use Rattle.fux_judge.proofs.StillSteps.{still_breaks, still_pays}
+use Rattle.fux_judge.proofs.StateLemmas.{come_behind}
 use Rattle.fux_judge.proofs.still.step_still.Goals as goal
 
 pub settles_late_break-requires-clause-idle : goal.settles_late_break-requires-clause-idle
@@ -22,7 +23,7 @@ returns-then-settles_late_break-clause-broken c = λ p st on.
     let still = subst (λ (i : ℕ). IsStillPlace ex i) st.newest.count c.requires.still in
     let menu = subst (λ (i : ℕ). IsInMenu ex i col) st.newest.count c.requires.menu in
     still_breaks ex p col on (still_is_quiet ex (length p) still col menu)
-    ∙ sym (c.settles_late_break.ensures p col record { reached = c.add_still.ensures.state p st; on = on })
+    ∙ sym (c.settles_late_break.ensures p col (come_behind (c.add_still.ensures.state p st) on))
     ∙ c.if-settles_late_break.true
 
 pub returns-then-settles_late_break-clause-least : goal.returns-then-settles_late_break-clause-least
@@ -40,7 +41,7 @@ returns-clause-unbroken c = λ p st on.
     let still = subst (λ (i : ℕ). IsStillPlace ex i) st.newest.count c.requires.still in
     let menu = subst (λ (i : ℕ). IsInMenu ex i col) st.newest.count c.requires.menu in
     still_breaks ex p col on (still_is_quiet ex (length p) still col menu)
-    ∙ sym (c.settles_late_break.ensures p col record { reached = c.add_still.ensures.state p st; on = on })
+    ∙ sym (c.settles_late_break.ensures p col (come_behind (c.add_still.ensures.state p st) on))
     ∙ c.if-settles_late_break.false
 
 pub returns-clause-settled : goal.returns-clause-settled
@@ -50,8 +51,8 @@ returns-clause-settled c = λ p st on.
     let still = subst (λ (i : ℕ). IsStillPlace ex i) st.newest.count c.requires.still in
     let menu = subst (λ (i : ℕ). IsInMenu ex i col) st.newest.count c.requires.menu in
     still_pays ex p col on (still_is_quiet ex (length p) still col menu) c.requires.valid.cantus_there c.args.sheet.now _ _
-    (c.pattern_charge.ensures.value p col record { reached = c.add_still.ensures.state p st; on = on })
-    (c.late_prices.ensures.value p col record { reached = c.add_still.ensures.state p st; on = on })
+    (c.pattern_charge.ensures.value p col (come_behind (c.add_still.ensures.state p st) on))
+    (c.late_prices.ensures.value p col (come_behind (c.add_still.ensures.state p st) on))
 
 pub returns-clause-paid : goal.returns-clause-paid
 returns-clause-paid c = λ p st on.

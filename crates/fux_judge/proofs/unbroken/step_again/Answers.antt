@@ -3,6 +3,7 @@ use Rattle.fux_judge.proofs.Grows.{paid_grows}
 use Rattle.fux_judge.specs.Links.{own_of}
 use Rattle.fux_judge.specs.Penalties.{paid}
 use Rattle.fux_judge.proofs.StepLemmas.{step_pays}
+use Rattle.fux_judge.proofs.StateLemmas.{come_behind}
 use Rattle.fux_judge.proofs.unbroken.step_again.Goals as goal
 
 pub returns-clause-settled : goal.returns-clause-settled
@@ -13,8 +14,8 @@ returns-clause-settled c = λ p st on.
     c.moment_of.ensures.column on _ _ _ _
     (c.paid_now-at_once.ensures.paid p (c.moment_of.ensures.after p st))
     (c.requires.own.is ∙ ap (λ i. own_of c.args.ex.now c.args.sheet.now i col) st.newest.count)
-    (c.late_charges.ensures.value p col record { reached = c.add.ensures.state p st; on = on })
-    (c.late_prices.ensures.value p col record { reached = c.add.ensures.state p st; on = on })
+    (c.late_charges.ensures.value p col (come_behind (c.add.ensures.state p st) on))
+    (c.late_prices.ensures.value p col (come_behind (c.add.ensures.state p st) on))
 
 pub returns-clause-paid : goal.returns-clause-paid
 returns-clause-paid c = λ p st on.
@@ -26,8 +27,8 @@ returns-clause-paid c = λ p st on.
     c.moment_of.ensures.column on _ _ _ _
     (c.paid_now-at_once.ensures.paid p (c.moment_of.ensures.after p st))
     (c.requires.own.is ∙ ap (λ i. own_of c.args.ex.now c.args.sheet.now i col) st.newest.count)
-    (c.late_charges.ensures.value p col record { reached = c.add.ensures.state p st; on = on })
-    (c.late_prices.ensures.value p col record { reached = c.add.ensures.state p st; on = on })))
+    (c.late_charges.ensures.value p col (come_behind (c.add.ensures.state p st) on))
+    (c.late_prices.ensures.value p col (come_behind (c.add.ensures.state p st) on))))
 
 pub returns-clause-least : goal.returns-clause-least
 returns-clause-least c = λ p st prefix.
