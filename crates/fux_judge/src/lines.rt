@@ -16,6 +16,7 @@ use penalty_sheet::Sheet;
 use rule_law::is_free;
 
 /// The notes at a line's climax, less one, where no note above it can come; else 0.
+#[inline(always)]
 fn climax_repeats(ex: &Exercise, v: u8, i: usize, kept: &LineGauges, ahead: &LineAhead) -> u8
     requires valid { IsValid ex.now }
     requires free { IsFree ex.now v }
