@@ -89,6 +89,11 @@ abbrev pub ArePassedOver : List (List Cell) → List Cell → ℕ → ℕ → Ty
 ArePassedOver menu before from to =
     (k : ℕ) → from ≤ k → k < to → ColumnFollows before (slice_index_or menu k []) → ⊥
 
+-- from one number up to another no column of a menu may follow
+abbrev pub AreStrays : List (List Cell) → List Cell → ℕ → ℕ → Type 0
+AreStrays menu before from to = (k : ℕ) → from ≤ k → k < to → k < length menu
+    → ColumnFollows before (slice_index_or menu k []) → ⊥
+
 -- from a number on up to this end, the columns have the same cells in so many of the lowest voices
 pub record Agree (menu : List (List Cell)) (voices k end : ℕ) : Type 0 where
   pub onward : k < end

@@ -7,7 +7,7 @@ ghost use Rattle.fux_grid.specs.Columns.{ColumnFollows};
 ghost use Rattle.fux_grid.specs.Grid.{items_of};
 ghost use Rattle.fux_grid.specs.Menus.{IsAscending};
 ghost use Rattle.rule_law.specs.Bars.{begins_bar};
-ghost use Rattle.species_space.specs.Blocks.{Agree, AreAlike, AreBlocksOf, AreHeldFirst, ArePassedOver, HasOneWidth, IsNumberAt, IsBlockEnd, IsCut, IsHeldNext, IsNext, IsOnlyHolds, IsWithoutHolds, KeepsCell, columns_seen, same_cell};
+ghost use Rattle.species_space.specs.Blocks.{Agree, AreAlike, AreBlocksOf, AreHeldFirst, ArePassedOver, AreStrays, HasOneWidth, IsNumberAt, IsBlockEnd, IsCut, IsHeldNext, IsNext, IsOnlyHolds, IsWithoutHolds, KeepsCell, columns_seen, same_cell};
 
 use fux_grid::{Cell, Column, cell_of, cells_follow};
 use rule_law::{RuleSet, begins_bar};
@@ -165,6 +165,19 @@ impl<'a> MenuView<'a> {
         column_at(self.columns, k)
     }
 
+    /// Whether the highest of so many of the lowest voices keeps its cell over one column alone:
+    /// then no other column is known to have the cells of these voices.
+    #[inline]
+    fn changes_always(&self, voices: usize) -> bool
+        requires { voices ≤ 4 }
+        ensures { IsTrue result → 1 ≤ voices }
+    {
+        if voices == 0 {
+            return false;
+        }
+        self.blocks.lengths[voices - 1] == 1
+    }
+
     /// How far the columns from this number on are known to have its cells in so many of the lowest
     /// voices: the first number behind them.
     pub fn end_of_agreement(&self, k: usize, voices: usize) -> usize
@@ -173,6 +186,9 @@ impl<'a> MenuView<'a> {
         requires voices { voices ≤ 4 }
         ensures { Agree (columns_seen self.now) voices k result }
     {
+        if self.changes_always(voices) {
+            return k + 1;
+        }
         let mut end = self.len();
         for v in 0..voices {
             let block = block_end(k, self.blocks.lengths[v]);
@@ -230,6 +246,28 @@ impl<'a> MenuView<'a> {
         cells_follow(before, self.column(k).as_slice())
     }
 
+    /// The number behind a column in which the cell of a voice doesn't follow, and behind the blocks
+    /// of the voice that come after it and in which it doesn't either: no other voice is asked there.
+    fn behind_misfit(&self, before: &[Cell], v: usize, k: usize) -> usize
+        requires cut { IsCut self.now }
+        requires within { k < length (columns_seen self.now) }
+        requires voice { v < 4 }
+        requires misses { cell_follows (cell_in before.now v)
+            (cell_in (slice_index_or (columns_seen self.now) k []) v) ≡ false }
+        ensures onward { k < result }
+        ensures passed { AreStrays (columns_seen self.now) before.now k result }
+    {
+        let cell = cell_of(before, v);
+        let mut end = block_end(k, self.blocks.lengths[v]);
+        while end < self.len() {
+            if cell_of(self.column(end).as_slice(), v).follows(cell) {
+                return end;
+            }
+            end = block_end(end, self.blocks.lengths[v]);
+        }
+        end
+    }
+
     /// The same as `next_that_follows`, by blocks: where the cell of a voice doesn't follow, it
     /// follows nowhere in its block.
     fn next_in_blocks(&self, before: &[Cell], from: usize) -> usize
@@ -241,7 +279,7 @@ impl<'a> MenuView<'a> {
         while k < self.len() {
             match misfit(before, self.column(k)) {
                 None => return k,
-                Some(v) => k = block_end(k, self.blocks.lengths[v]),
+                Some(v) => k = self.behind_misfit(before, v, k),
             }
         }
         self.len()
@@ -273,13 +311,17 @@ fn misfit(before: &[Cell], column: &Column) -> Option<usize>
     None
 }
 
-/// The number after the block of this length that a column is in.
+/// The number after the block of this length that a column is in. Most blocks that are asked for
+/// are of one column, which takes no division.
 #[inline]
 fn block_end(k: usize, length: u16) -> usize
     requires some { 1 ≤ length }
     requires few { k < 8192 }
     ensures { IsBlockEnd k length result }
 {
+    if length == 1 {
+        return k + 1;
+    }
     let length = length as usize;
     k / length * length + length
 }

@@ -1,4 +1,4 @@
-use Rattle.std.proofs.Common.{[], slice_index_or, sym, ◌∙◌, arith}
+use Rattle.std.proofs.Common.{◌≡◌, [], slice_index_or, take, ap, sym, ◌∙◌, arith}
 use Rattle.species_space.specs.Blocks.{columns_seen}
 use Rattle.species_space.proofs.Passing.{agree_more, same_takes}
 use Rattle.species_space.proofs.blocks.MenuView.end_of_agreement.Goals.{then-block-end, else-block-end}
@@ -38,6 +38,17 @@ loop-v-preserved c =
             (omega (arith, w.end-is, old.within)) old.cells;
       }
     ]
+
+pub returns-then-changes_always : goal.returns-then-changes_always
+returns-then-changes_always c =
+    let menu = columns_seen c.args.self.now in
+    record {
+      onward = omega arith;
+      within = omega (arith, c.requires.within);
+      cells = λ j le lt.
+          let same : j ≡ c.args.k = omega (arith, le, lt) in
+          ap (λ n. take c.args.voices (slice_index_or menu n [])) same;
+    }
 
 pub returns : goal.returns
 returns c =
