@@ -199,21 +199,23 @@ impl<'a> MenuView<'a> {
         end
     }
 
-    /// In how many of the lowest voices two columns are known to have the same cells.
+    /// In how many of the lowest voices two columns are known to have the same cells; no more voices
+    /// than so many are compared.
     #[inline]
-    pub fn lowest_alike(&self, j: usize, k: usize) -> usize
-        ensures { AreAlike result (slice_index_or (columns_seen self.now) j [])
+    pub fn lowest_alike(&self, j: usize, k: usize, most: usize) -> usize
+        ensures few { result ≤ most }
+        ensures alike { AreAlike result (slice_index_or (columns_seen self.now) j [])
             (slice_index_or (columns_seen self.now) k []) }
     {
         if j >= self.columns.len() || k >= self.columns.len() {
             return 0;
         }
-        for v in 0..column_at(self.columns, j).len() {
+        for v in 0..column_at(self.columns, j).len().min(most) {
             if !same_cell(cell_at(self.columns, j, v), cell_at(self.columns, k, v)) {
                 return v;
             }
         }
-        4
+        most
     }
 
     /// Whether each cell of each column is a hold: then at most one column may follow.

@@ -196,7 +196,7 @@ fn alike_before(menu: &MenuView<'_>, from: usize, k: usize) -> usize
     if from == 0 {
         return 0;
     }
-    menu.lowest_alike(from - 1, k)
+    menu.lowest_alike(from - 1, k, 4)
 }
 
 /// The first number, from this one on, of a column that may follow, has a rest, and isn't pruned by
@@ -238,7 +238,7 @@ pub(crate) fn next_unpruned<R: Rests>(
         };
         let last = k;
         k = next_choice(menu, before, end, hint);
-        tried = menu.lowest_alike(last, k).min(sound);
+        tried = menu.lowest_alike(last, k, sound);
     }
     k
 }

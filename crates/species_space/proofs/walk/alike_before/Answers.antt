@@ -11,4 +11,4 @@ returns-clause-alike c = λ j e.
     let same : c.args.from - 1 ≡ j = omega (arith, e) in
     subst
     (λ (n : ℕ). AreAlike c.lowest_alike.result (slice_index_or menu n []) (slice_index_or menu c.args.k []))
-    same c.lowest_alike.ensures
+    same c.lowest_alike.ensures.alike

@@ -82,11 +82,8 @@ loop-k-preserved g c =
           (ap (λ cols. length (slice_index_or cols k [])) c.requires.menu.columns
           ∙ menu_of-full ex node.state.newest.len k []
           (subst (λ cols. k < length cols) c.requires.menu.columns (omega (arith, c.loop-k-test.true, c.len.ensures))))
-          c.lowest_alike.ensures c.in-Some.ensures.sound
-          (λ v lt there. (
-            omega (arith, lt, c.min-tried.ensures, c.in-Some.sound-is),
-            omega (arith, lt, c.min-tried.ensures, c.in-Some.sound-is),
-          ));
+          c.lowest_alike-tried.ensures.alike c.in-Some.ensures.sound
+          (λ v lt there. (lt, omega (arith, lt, c.lowest_alike-tried.ensures.few, c.in-Some.sound-is)));
       follows = next.follows;
       unskipped = next.unskipped;
       passed = λ path at.

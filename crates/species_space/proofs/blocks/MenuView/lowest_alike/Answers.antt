@@ -12,9 +12,13 @@ loop-v-preserved c =
     (sym c.cell_at.ensures ∙ same_from_test c.cell_at.result c.cell_at-in-loop-v.result
     (sym c.same_cell.ensures ∙ c.if-not-same_cell.false) ∙ c.cell_at-in-loop-v.ensures)
 
-pub returns-then-not-same_cell : goal.returns-then-not-same_cell
-returns-then-not-same_cell c = λ u lt there. c.loop-v.invariant u lt
+pub returns-then-not-same_cell-clause-few : goal.returns-then-not-same_cell-clause-few
+returns-then-not-same_cell-clause-few c = omega (arith, c.loop-v-test.true, c.min-v-end.ensures)
 
-pub returns : goal.returns
-returns c = λ u lt there.
-    c.loop-v.invariant u (omega (arith, there, c.loop-v-test.false, c.len-v-end.ensures, ap length c.column_at.ensures))
+pub returns-then-not-same_cell-clause-alike : goal.returns-then-not-same_cell-clause-alike
+returns-then-not-same_cell-clause-alike c = λ u lt there. c.loop-v.invariant u lt
+
+pub returns-clause-alike : goal.returns-clause-alike
+returns-clause-alike c = λ u lt there.
+    c.loop-v.invariant u
+    (omega (arith, lt, there, c.loop-v-test.false, c.min-v-end.ensures, c.len.ensures, ap length c.column_at.ensures))
