@@ -1,10 +1,12 @@
 //! A case with the lists that lines state, as a tree of claims: its prefixes are the nodes.
 
-ghost use Rattle.std.specs.Prelude.{◌≡◌, ◌≤◌, length, map};
+ghost use Rattle.std.specs.Prelude.{◌≡◌, ◌≤◌, ◌↔◌, IfSome, IsTrue, length, map};
 ghost use Rattle.cert_law.specs.Bases.{HasTails, basis_of};
 ghost use Rattle.cert_law.specs.Cases.{IsCase, matter_of};
+ghost use Rattle.cert_law.specs.Known.{ways_of};
+ghost use Rattle.cert_tree.specs.Walks.{IsBehind};
 ghost use Rattle.price_check.specs.Floors.{AreFor, list_of};
-ghost use Rattle.price_check.specs.Sharps.{lists_in, webbed};
+ghost use Rattle.price_check.specs.Sharps.{IsSharpKnown, IsStepOf, lists_in, own_in, tree_in, webbed};
 ghost use Rattle.price_check.specs.declared.floors.TheConstants.{MOST_LISTS};
 ghost use Rattle.price_lists.specs.Stated.{AreStated};
 ghost use Rattle.price_text.specs.PriceLines.{line_of};
@@ -97,6 +99,44 @@ impl<'a, 'f> SharpCase<'a, 'f> {
     {
         let _ = &self.plain;
     }
+
+    /// Whether a claim is true of an open prefix with the column of a number more, by the lists and
+    /// all that is known of that then.
+    fn judge_by_lists(
+        &self,
+        known: &SharpKnown,
+        number: usize,
+        claim: Claim,
+        found: &mut Option<SharpKnown>,
+    ) -> bool
+        requires { IsStepOf self.now number known.now }
+        ensures told { IsBehind (IsSharpKnown self.now) (ways_of self.now.case.exercise) known.now number
+            (λ q. IsTrue result ↔ (tree_in self.now).IsTrueOf q claim) }
+        ensures found { IfSome found.new (λ next. IsBehind (IsSharpKnown self.now)
+            (ways_of self.now.case.exercise) known.now number (IsSharpKnown self.now next)) }
+    {
+        let next = self.behind(known, number);
+        *found = Some(next);
+        self.is_true(&next, claim)
+    }
+
+    /// The first claim that is true of such a prefix, as `judge_by_lists`.
+    fn tell_by_lists(
+        &self,
+        known: &SharpKnown,
+        number: usize,
+        found: &mut Option<SharpKnown>,
+    ) -> Claim
+        requires { IsStepOf self.now number known.now }
+        ensures own { IsBehind (IsSharpKnown self.now) (ways_of self.now.case.exercise) known.now number
+            (λ q. result ≡ own_in self.now q) }
+        ensures found { IfSome found.new (λ next. IsBehind (IsSharpKnown self.now)
+            (ways_of self.now.case.exercise) known.now number (IsSharpKnown self.now next)) }
+    {
+        let next = self.behind(known, number);
+        *found = Some(next);
+        self.own_claim(&next)
+    }
 }
 
 impl<'a, 'f> ClaimTree for SharpCase<'a, 'f> {
@@ -178,9 +218,7 @@ impl<'a, 'f> ClaimTree for SharpCase<'a, 'f> {
                 .plain
                 .judge_behind(&mut known.own, number, claim, &mut None);
         }
-        let next = self.behind(known, number);
-        *found = Some(next);
-        self.is_true(&next, claim)
+        self.judge_by_lists(known, number, claim, found)
     }
 
     fn own_claim(&self, known: &SharpKnown) -> Claim {
@@ -198,8 +236,6 @@ impl<'a, 'f> ClaimTree for SharpCase<'a, 'f> {
         if let Claim::Broken(_) = plain {
             return plain;
         }
-        let next = self.behind(known, number);
-        *found = Some(next);
-        self.own_claim(&next)
+        self.tell_by_lists(known, number, found)
     }
 }

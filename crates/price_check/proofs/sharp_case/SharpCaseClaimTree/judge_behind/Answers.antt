@@ -42,13 +42,3 @@ returns-in-Broken-clause-kept c =
     sharp_kept c.args.self.now known own
     (subst (λ (s : Sharp). KeepsKnown (plain_of s.case) known.own own) c.self.view_is
     (subst (λ (w : Tailed). KeepsKnown w known.own own) c.self.invariant.without c.judge_behind.ensures.kept))
-
-pub is_true-requires : goal.is_true-requires
-is_true-requires c = record {
-  node = (ways_of c.args.self.now.case.exercise).child c.requires.step.node c.args.number;
-  is_of = c.behind-next.ensures c.requires.step.node c.requires.step.is_open.is_of c.requires.step.step;
-}
-
-pub returns-clause-told : goal.returns-clause-told
-returns-clause-told c = λ p is at.
-    c.is_true.ensures ((ways_of c.args.self.now.case.exercise).child p c.args.number) (c.behind-next.ensures p is at)

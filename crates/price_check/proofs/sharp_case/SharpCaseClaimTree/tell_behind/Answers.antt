@@ -1,4 +1,5 @@
 use Rattle.std.proofs.Common.{◌≡◌, ◌∙◌, subst, sym}
+use Rattle.std.proofs.lemmas.Option.{IfSome_then}
 use Rattle.cert_law.specs.declared.known.PrefixKnown.{PrefixKnown}
 use Rattle.cert_law.specs.Known.{IsBehindKnown, IsStepOf as IsPlainStepOf, KeepsKnown, Tailed, own_in as plain_own, ways_of}
 use Rattle.price_check.specs.Sharps.{Sharp, lists_in, plain_of}
@@ -38,31 +39,23 @@ pub returns-in-Broken-clause-kept : goal.returns-in-Broken-clause-kept
 returns-in-Broken-clause-kept c = sharp_kept c.args.self.now c.args.known.now c.tell_behind-plain.new.known (plain_kept _ c.args.self.now _ c.args.known.now.own c.tell_behind-plain.new.known c.self.view_is
     c.self.invariant.without c.tell_behind-plain.ensures.kept)
 
-pub behind-next-requires : goal.behind-next-requires
-behind-next-requires c =
-    sharp_step c.args.self.now c.args.known.now c.tell_behind-plain.new.known (plain_kept _ c.args.self.now _ c.args.known.now.own c.tell_behind-plain.new.known c.self.view_is
-    c.self.invariant.without c.tell_behind-plain.ensures.kept) c.args.number c.requires.step
-
-pub own_claim-requires : goal.own_claim-requires
-own_claim-requires c = record {
-  node = (ways_of c.args.self.now.case.exercise).child c.requires.step.node c.args.number;
-  is_of = c.behind-next.ensures c.requires.step.node
-      (sharp_kept c.args.self.now c.args.known.now c.tell_behind-plain.new.known (plain_kept _ c.args.self.now _ c.args.known.now.own c.tell_behind-plain.new.known c.self.view_is
-      c.self.invariant.without c.tell_behind-plain.ensures.kept) c.requires.step.node
-      c.requires.step.is_open.is_of) c.requires.step.step;
-}
+pub tell_by_lists-requires : goal.tell_by_lists-requires
+tell_by_lists-requires c =
+    sharp_step c.args.self.now c.args.known.now c.tell_behind-plain.new.known (plain_kept _ c.args.self.now _ c.args.known.now.own c.tell_behind-plain.new.known
+    c.self.view_is c.self.invariant.without c.tell_behind-plain.ensures.kept) c.args.number c.requires.step
 
 pub returns-clause-own : goal.returns-clause-own
 returns-clause-own c = λ p is at.
-    c.own_claim.ensures ((ways_of c.args.self.now.case.exercise).child p c.args.number)
-    (c.behind-next.ensures p (sharp_kept c.args.self.now c.args.known.now c.tell_behind-plain.new.known (plain_kept _ c.args.self.now _ c.args.known.now.own c.tell_behind-plain.new.known c.self.view_is
-    c.self.invariant.without c.tell_behind-plain.ensures.kept) p is) at)
+    c.tell_by_lists.ensures.own p
+    (sharp_kept c.args.self.now c.args.known.now c.tell_behind-plain.new.known (plain_kept _ c.args.self.now _ c.args.known.now.own c.tell_behind-plain.new.known
+    c.self.view_is c.self.invariant.without c.tell_behind-plain.ensures.kept) p is) at
 
 pub returns-clause-found : goal.returns-clause-found
-returns-clause-found c = λ p is at.
-    c.behind-next.ensures p (sharp_kept c.args.self.now c.args.known.now c.tell_behind-plain.new.known (plain_kept _ c.args.self.now _ c.args.known.now.own c.tell_behind-plain.new.known c.self.view_is
-    c.self.invariant.without c.tell_behind-plain.ensures.kept) p is) at
+returns-clause-found c =
+    IfSome_then c.tell_by_lists.new.found c.tell_by_lists.ensures.found (λ next behind p is at.
+    behind p (sharp_kept c.args.self.now c.args.known.now c.tell_behind-plain.new.known (plain_kept _ c.args.self.now _ c.args.known.now.own c.tell_behind-plain.new.known
+    c.self.view_is c.self.invariant.without c.tell_behind-plain.ensures.kept) p is) at)
 
 pub returns-clause-kept : goal.returns-clause-kept
-returns-clause-kept c = sharp_kept c.args.self.now c.args.known.now c.tell_behind-plain.new.known (plain_kept _ c.args.self.now _ c.args.known.now.own c.tell_behind-plain.new.known c.self.view_is
-    c.self.invariant.without c.tell_behind-plain.ensures.kept)
+returns-clause-kept c = sharp_kept c.args.self.now c.args.known.now c.tell_behind-plain.new.known (plain_kept _ c.args.self.now _ c.args.known.now.own c.tell_behind-plain.new.known
+    c.self.view_is c.self.invariant.without c.tell_behind-plain.ensures.kept)
