@@ -249,13 +249,17 @@ pub(crate) fn settles_late_break(ex: &Exercise, idle: RuleSet, next: &State) -> 
     })
 }
 
-/// A set with the late rules added of which the newest column settles a strict break.
+/// A set with the late rules added of which the newest column settles a strict break. Most columns
+/// settle none, and that is told sooner than which.
 pub(crate) fn with_late(set: RuleSet, ex: &Exercise, next: &State) -> RuleSet
     requires valid { IsValid ex.now }
     requires begun { 0 < next.now.newest.len }
     requires room { next.now.newest.len ≤ columns_in ex.now }
     ensures { AddsLateBreaks ex.now next.now set.bits result.bits }
 {
+    if !settles_late_break(ex, RuleSet::EMPTY, next) {
+        return set;
+    }
     let mut broken = set;
     for rule in every_late_rule() {
         let on = is_broken_late(*rule, ex, next);
