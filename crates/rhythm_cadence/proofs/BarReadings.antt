@@ -16,7 +16,7 @@ use Rattle.rule_law.specs.Voices.{is_free, voice_of, holds_of_voice, on_free_voi
 use Rattle.rhythm_cadence.specs.Rows.{open_row, may_go_on, leaves_shapes, is_open, broken_in, enough_after}
 
 -- tests that agree at each voice agree on a set
-holds_of_voice-same : (ex : Exercise) (f g : ℕ → Bool) (voice : Option ℕ) → ((v : ℕ) → f v ≡ g v)
+pub holds_of_voice-same : (ex : Exercise) (f g : ℕ → Bool) (voice : Option ℕ) → ((v : ℕ) → f v ≡ g v)
     → holds_of_voice ex (λ v. is_free ex v && f v) voice ≡ holds_of_voice ex (λ v. is_free ex v && g v) voice
 holds_of_voice-same ex f g None e = refl
 holds_of_voice-same ex f g (Some v) e = ap (λ b. nat_lt v ex.voices && (is_free ex v && b)) (e v)

@@ -3,6 +3,7 @@ pub mod AllRules
 pub mod BarReadings
 pub mod BookLaws
 pub mod CadenceReadings
+pub mod CellShapes
 pub mod EarlierFollows
 pub mod HeldQuavers
 pub mod LateLaws

@@ -27,16 +27,21 @@ each_of_four P a b c d (suc (suc zero)) h = c
 each_of_four P a b c d (suc (suc (suc zero))) h = d
 each_of_four P a b c d (suc (suc (suc (suc v)))) h = absurd (omega arith)
 
--- the set of a voice with one more column
+-- the set of a voice with one more cell, by what was possible before it
+pub set-same : (ex : Exercise) (p : List (List Cell)) (v i possible : ℕ) (now : Cell) → length p ≡ i
+    → (0 < length p → possible ≡ shapes_begun ex v p) → shapes_after ex v i possible now
+    ≡ shapes_after ex v (length p) (shapes_begun ex v p) now
+set-same ex [] v i possible now e same = ap (λ n. shapes_after ex v n possible now) (sym e)
+set-same ex (c ∷ p) v i possible now e same =
+    ap (λ n. shapes_after ex v n possible now) (sym e)
+    ∙ ap (λ n. shapes_after ex v (length (c ∷ p)) n now) (same (omega arith))
+
+-- and with one more column
 pub set-more : (ex : Exercise) (p : List (List Cell)) (col : List Cell) (v i possible : ℕ) → length p ≡ i
     → (0 < length p → possible ≡ shapes_begun ex v p) → shapes_after ex v i possible (cell_in col v)
     ≡ shapes_begun ex v (p ++ col ∷ [])
-set-more ex [] col v i possible e same =
-    ap (λ n. shapes_after ex v n possible (cell_in col v)) (sym e) ∙ sym (shapes_begun-more ex v [] col)
-set-more ex (c ∷ p) col v i possible e same =
-    ap (λ n. shapes_after ex v n possible (cell_in col v)) (sym e)
-    ∙ ap (λ n. shapes_after ex v (length (c ∷ p)) n (cell_in col v)) (same (omega arith))
-    ∙ sym (shapes_begun-more ex v (c ∷ p) col)
+set-more ex p col v i possible e same =
+    set-same ex p v i possible (cell_in col v) e same ∙ sym (shapes_begun-more ex v p col)
 
 pub free_voice : (ex : Exercise) (v : ℕ) → nat_lt v ex.voices ≡ true → is_free ex v ≡ true → IsFree ex v
 free_voice ex v there free = record {
@@ -47,7 +52,7 @@ free_voice ex v there free = record {
 pub voice_of-alone : (v : ℕ) → v < 4 → voice_of (2 ^ v) ≡ Some v
 voice_of-alone = each_of_four (λ v. voice_of (2 ^ v) ≡ Some v) refl refl refl refl
 
-only_free : (n free : Bool) (x y : Bool) → (n ≡ true → free ≡ true → x ≡ y) → (n && (free && x)) ≡ (n && (free && y))
+pub only_free : (n free : Bool) (x y : Bool) → (n ≡ true → free ≡ true → x ≡ y) → (n && (free && x)) ≡ (n && (free && y))
 only_free true true x y f = f refl refl
 only_free true false x y f = refl
 only_free false free x y f = refl

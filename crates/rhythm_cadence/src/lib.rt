@@ -19,7 +19,7 @@ pub use cadence::{breaks_cadence, has_suspension, is_suspended, leading_slot, sh
 pub use in_place::are_in_place;
 pub use inflections::inflection_cost;
 pub use letter_sets::{LetterSets, all_have, are_alike, fitting_shapes};
-pub use part::{BarShapes, leaves_last_shape, note, unbegun};
+pub use part::{BarShapes, leaves_by_cell, leaves_last_shape, note, unbegun};
 pub use patterns::{is_pattern_settled, missing_ligatures, pattern_cost};
 pub use quavers::{breaks_quaver, is_quaver_settled, is_step_apart};
 pub use rhythm::{Rhythm, breaks};

@@ -9,7 +9,7 @@ ghost use Rattle.fux_grid.specs.Exercises.{IsFree, IsValid, columns_in};
 ghost use Rattle.rule_law.specs.Bars as bars;
 ghost use Rattle.rule_law.specs.Voices as voices_words;
 ghost use Rattle.rhythm_cadence.specs.Parts.{IsShapesOf, shapes_after};
-ghost use Rattle.rhythm_cadence.specs.Told.{LeavesShapes, have_left};
+ghost use Rattle.rhythm_cadence.specs.Told.{LeavesShapes, have_left, leaves_by_cell};
 
 use crate::letter_sets::fitting_shapes;
 use fux_grid::{Cell, Exercise, VoiceSet, bar_of, cell_of, slot_of, species_of};
@@ -104,6 +104,20 @@ fn has_none_left(possible: u16, ex: &Exercise, v: u8) -> bool
         ≡ (nat_lt v ex.now.voices && (voices_words.is_free ex.now v && possible == 0)) }
 {
     v < ex.voices && is_free(ex, v) && possible == 0
+}
+
+/// Whether a voice has no shape left in its bar with a cell at column `i`, if it is there and free:
+/// behind an orderly list it breaks S3 just then, in any column with that cell.
+pub fn leaves_by_cell(part: &BarShapes, ex: &Exercise, i: usize, cell: Cell, v: u8) -> bool
+    requires voice { v < 4 }
+    requires valid { IsValid ex.now }
+    requires place { i < columns_in ex.now }
+    ensures { (p : Columns) → length p ≡ i → IsShapesOf ex.now p part.now →
+        result ≡ leaves_by_cell ex.now v p cell }
+{
+    let possible = part.possible[v as usize];
+    let left = kept(possible, ex, i, cell, v);
+    has_none_left(left, ex, v)
 }
 
 /// S3 of one voice: whether it has left the shapes of the newest bar.
