@@ -1,15 +1,17 @@
 -- What is known of a prefix, its tail among it (`tail_moved`): each prefix of which the same is
 -- known is open too (`open_same`), and goes on by the column of a number (`step_goes_on`).
 use Rattle.std.proofs.Common.{◌≡◌, ℕ, ◌*◌, ◌<◌, ◌≤◌, true, List, [], ◌∷◌, ◌++◌, Option, Some, None, length, map, reverse, slice_index_or, ap, sym, ◌∙◌, subst, arith}
-use Rattle.std.specs.Prelude.{IfSome, nat_lt}
+use Rattle.std.specs.Prelude.{nat_lt}
 use Rattle.std.proofs.lemmas.Bool.{and_from, and_parts, lt-ltb, ltb-true}
 use Rattle.std.proofs.lemmas.List.Elements.{Contains-get_or}
 use Rattle.cert_law.specs.Bases.{Basis, HasTails, tail_by}
 use Rattle.cert_law.specs.Cases.{IsCase, Matter}
-use Rattle.cert_law.specs.Known.{IsBehindKnown, IsKnown, IsNextNumber, IsStepOf, KeepsKnown, Tailed, column_after, is_step_of, tree_in, ways_of}
+use Rattle.cert_law.specs.Known.{IsFoundBehind, IsKnown, IsNextNumber, IsStepOf, KeepsKnown, Tailed, column_after, is_step_of, tree_in, ways_of}
 use Rattle.cert_law.specs.Prefixes.{IsSmall}
 use Rattle.cert_law.specs.Tails.{tail_of}
+use Rattle.cert_law.specs.VoicesTold.{AreVoicesTold}
 use Rattle.cert_law.specs.declared.known.PrefixKnown.{PrefixKnown}
+use Rattle.cert_law.specs.declared.voices_told.VoicesTold.{VoicesTold}
 use Rattle.cert_law.proofs.BreakLemmas.{shapes_unbroken, unbroken_shapes}
 use Rattle.cert_law.proofs.Prefixes.{prefix-push}
 use Rattle.cert_text.specs.declared.claim.Claim.{Claim}
@@ -136,6 +138,11 @@ module _ (t : Tailed) (basis : Basis) (known : PrefixKnown) (k : ℕ) (case : Is
       menu_of-full basis.exercise known.judged.state.newest.len k [] step_within
       ∙ ap (λ (ex : Exercise). ex.voices) has.exercise
 
+-- what is known stays so, whatever was told of voices
+pub voices_kept : (t : Tailed) (known : PrefixKnown) (voices : VoicesTold)
+    → AreVoicesTold t.case.exercise known.judged.state voices → KeepsKnown t known (record known { voices = voices })
+voices_kept t known voices told = λ p is. record { judged = is.judged; tail = is.tail; voices = told }
+
 -- a step stays one, where what was known is kept
 pub step_kept : (t : Tailed) (old new : PrefixKnown) (k : ℕ) → KeepsKnown t old new → IsStepOf t k old → IsStepOf t k new
 step_kept t old new k kept step = record {
@@ -151,8 +158,7 @@ step_kept t old new k kept step = record {
 
 -- so is what was found behind it
 pub found_kept : (t : Tailed) (old new : PrefixKnown) (k : ℕ) (found : Option PrefixKnown) → KeepsKnown t old new
-    → IfSome found (λ next. IsBehindKnown t new k (IsKnown t next))
-    → IfSome found (λ next. IsBehindKnown t old k (IsKnown t next))
+    → IsFoundBehind t new k found → IsFoundBehind t old k found
 found_kept t old new k None kept h = tt
 found_kept t old new k (Some next) kept h = λ p is at. h p (kept p is) at
 

@@ -1,6 +1,6 @@
 -- What is known of a prefix so that its claims can be judged, and how prefixes are found by the
 -- numbers of columns.
-use Rattle.std.specs.Prelude.{◌≡◌, ℕ, ◌+◌, ◌<◌, ◌&&◌, Bool, nat_lt, IsTrue, List, [], ◌∷◌, ◌++◌, Option, Some, None, drop, length, map, reverse, slice_index_or}
+use Rattle.std.specs.Prelude.{◌≡◌, ◌↔◌, ℕ, ◌+◌, ◌<◌, ◌&&◌, Bool, nat_lt, IfSome, IsTrue, List, [], ◌∷◌, ◌++◌, Option, Some, None, drop, length, map, reverse, slice_index_or}
 use Rattle.std.specs.List.{filter}
 use Rattle.cert_text.specs.declared.claim.Claim.{Claim}
 use Rattle.cert_text.specs.declared.potential.Potential.{Potential}
@@ -103,6 +103,17 @@ IsStepOf t k known = IsOfStep (tree_in t) (IsKnown t) (ways_of t.case.exercise) 
 -- may come next
 abbrev pub IsBehindKnown : Tailed → PrefixKnown → ℕ → (List (List Cell) → Type 0) → Type 0
 IsBehindKnown t known k Holds = IsBehind (IsKnown t) (ways_of t.case.exercise) known k Holds
+
+-- whether a claim is true of it, and which claim is its own
+abbrev pub TellsTruthBehind : Tailed → PrefixKnown → ℕ → Claim → Bool → Type 0
+TellsTruthBehind t known k claim told = IsBehindKnown t known k (λ q. IsTrue told ↔ (tree_in t).IsTrueOf q claim)
+
+abbrev pub TellsOwnBehind : Tailed → PrefixKnown → ℕ → Claim → Type 0
+TellsOwnBehind t known k claim = IsBehindKnown t known k (λ q. claim ≡ own_in t q)
+
+-- where something was found, it is known of it
+abbrev pub IsFoundBehind : Tailed → PrefixKnown → ℕ → Option PrefixKnown → Type 0
+IsFoundBehind t known k found = IfSome found (λ next. IsBehindKnown t known k (IsKnown t next))
 
 -- of each prefix of which the one is known, the other is known as well
 abbrev pub KeepsKnown : Tailed → PrefixKnown → PrefixKnown → Type 0

@@ -6,14 +6,13 @@ ghost use Rattle.cert_law.specs.Alone.{IsAlone};
 ghost use Rattle.cert_law.specs.Cases.{IsCase, matter_of};
 ghost use Rattle.cert_law.specs.Soon.{TellsBreak, TellsLeast, has_length as has_so_many};
 ghost use Rattle.fux_grid.specs.Exercises.{columns_in};
-ghost use Rattle.fux_judge.specs.Told.{TellsLines};
+ghost use Rattle.fux_judge.specs.Told.{TellsLine};
 
 use crate::case::Case;
 use crate::judged::Judged;
 use cert_text::{CertHead, Claim};
 use fux_grid::Column;
 use fux_judge::{is_told_broken, told_rule};
-use rule_law::RuleSet;
 
 /// Whether the head has a setting of so many columns.
 fn has_length(case: &Case<'_>, count: usize) -> bool
@@ -26,21 +25,20 @@ fn has_length(case: &Case<'_>, count: usize) -> bool
 }
 
 /// The least rule that is broken in a prefix with a column more, where it is soon told and that
-/// isn't as long as the head's setting. The least one that the column breaks by itself may be given,
-/// and which of S4 to S9 it breaks.
+/// isn't as long as the head's setting. The least of S3 to S9 that the column breaks is given, and
+/// the least one that it breaks by itself may be.
 pub fn told_break(
     case: &Case<'_>,
     judged: &Judged,
     column: &Column,
     alone: Option<u8>,
-    lines: Option<RuleSet>,
+    line: Option<u8>,
 ) -> Option<u8>
     requires case { IsCase (matter_of case.now) }
     requires room { judged.now.state.newest.len < columns_in case.now.exercise.now }
-    requires full { length column.now.items ≡ case.now.exercise.now.voices }
     requires alone { IsAlone case.now.exercise.now judged.now.state.newest.len column.now.items
         alone }
-    requires lines { TellsLines case.now.exercise.now judged.now.state column.now.items lines }
+    requires line { TellsLine case.now.exercise.now judged.now.state column.now.items line }
     ensures { IfSome result (TellsLeast (matter_of case.now) judged.now column.now.items) }
 {
     let broken = judged.broken.bits;
@@ -50,21 +48,19 @@ pub fn told_break(
     if has_length(case, judged.state.newest.len + 1) {
         return None;
     }
-    if let Some(rule) = told_rule(case.exercise, &judged.state, column, alone, lines) {
+    if let Some(rule) = told_rule(case.exercise, &judged.state, column, alone, line) {
         return Some(rule);
     }
     None
 }
 
 /// Whether a claim is soon told to be true of a prefix with a column more: it is of a rule that the
-/// column breaks. The least one that it breaks by itself may be given, and which of S4 to S9 it
-/// breaks.
+/// column breaks. The least one that it breaks by itself may be given.
 pub fn is_break_told(
     case: &Case<'_>,
     judged: &Judged,
     column: &Column,
     alone: Option<u8>,
-    lines: Option<RuleSet>,
     claim: Claim,
 ) -> bool
     requires case { IsCase (matter_of case.now) }
@@ -72,13 +68,12 @@ pub fn is_break_told(
     requires full { length column.now.items ≡ case.now.exercise.now.voices }
     requires alone { IsAlone case.now.exercise.now judged.now.state.newest.len column.now.items
         alone }
-    requires lines { TellsLines case.now.exercise.now judged.now.state column.now.items lines }
     ensures { OnTrue result (TellsBreak (matter_of case.now) judged.now column.now.items claim) }
 {
     let Claim::Broken(rule) = claim else {
         return false;
     };
-    if is_told_broken(case.exercise, &judged.state, column, rule, alone, lines) {
+    if is_told_broken(case.exercise, &judged.state, column, rule, alone) {
         return true;
     }
     false

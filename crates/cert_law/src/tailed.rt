@@ -1,13 +1,13 @@
 //! A case with tails, as a tree of claims: its prefixes are the nodes.
 
-ghost use Rattle.std.specs.Prelude.{◌≡◌, ◌↔◌, ◌<◌, ◌≤◌, ◌*◌, [], IfSome, IsTrue, None, length, slice_index_or};
+ghost use Rattle.std.specs.Prelude.{◌≡◌, ◌<◌, ◌≤◌, ◌*◌, [], None, length};
+ghost use Rattle.std.specs.Bool.{OnTrue};
 ghost use Rattle.cert_tree.specs.Walks.{IsNextOf, IsOfOpen};
 ghost use Rattle.cert_law.specs.Bases.{HasTails};
 ghost use Rattle.cert_law.specs.Cases.{IsCase, matter_of};
-ghost use Rattle.cert_law.specs.Known.{IsBehindKnown, IsKnown, IsKnownAfter, IsStepOf, KeepsKnown, own_in, tailed_of, tree_in, ways_of};
+ghost use Rattle.cert_law.specs.Known.{IsBehindKnown, IsFoundBehind, IsKnown, IsKnownAfter, IsStepOf, KeepsKnown, TellsOwnBehind, TellsTruthBehind, tailed_of, tree_in, ways_of};
 ghost use Rattle.fux_grid.specs.Exercises.{columns_in};
 ghost use Rattle.fux_grid.specs.Menus.{menu_of};
-ghost use Rattle.fux_judge.specs.Told.{TellsLines};
 
 use crate::case::Case;
 use crate::judged::Judged;
@@ -15,10 +15,9 @@ use crate::known::PrefixKnown;
 use crate::soon::{is_break_told, told_break};
 use crate::tails::Tails;
 use crate::truth::{first_claim, is_open, is_true};
-use crate::voices_told::{VoicesTold, ask_voices};
+use crate::voices_told::{VoicesTold, ask_voices, is_broken_by_voice};
 use cert_text::Claim;
 use cert_tree::ClaimTree;
-use rule_law::RuleSet;
 use std::marker::Model;
 
 /// A case, and the tails by which its claims are judged.
@@ -104,9 +103,8 @@ fn ends_with<T: Tails>(case: &Case<'_>, tails: &T, known: &PrefixKnown, number: 
     requires case { IsCase (matter_of case.now) }
     requires tails { HasTails (matter_of case.now) (T.basis tails.now) }
     requires step { IsStepOf (tailed_of (matter_of case.now) (T.basis tails.now)) number known.now }
-    ensures { IsBehindKnown (tailed_of (matter_of case.now) (T.basis tails.now)) known.now number
-        (λ q. IsTrue result
-        ↔ (tree_in (tailed_of (matter_of case.now) (T.basis tails.now))).IsTrueOf q Claim.NoChain) }
+    ensures { TellsTruthBehind (tailed_of (matter_of case.now) (T.basis tails.now)) known.now number
+        Claim.NoChain result }
 {
     let _ = case;
     tails
@@ -128,12 +126,10 @@ fn judge_whole<T: Tails>(
     requires tails { HasTails (matter_of case.now) (T.basis tails.now) }
     requires step { IsStepOf (tailed_of (matter_of case.now) (T.basis tails.now)) number known.now }
     requires none { found.old ≡ None }
-    ensures told { IsBehindKnown (tailed_of (matter_of case.now) (T.basis tails.now)) known.now number
-        (λ q. IsTrue result
-        ↔ (tree_in (tailed_of (matter_of case.now) (T.basis tails.now))).IsTrueOf q claim) }
-    ensures found { IfSome found.new (λ next.
-        IsBehindKnown (tailed_of (matter_of case.now) (T.basis tails.now)) known.now number
-        (IsKnown (tailed_of (matter_of case.now) (T.basis tails.now)) next)) }
+    ensures told { TellsTruthBehind (tailed_of (matter_of case.now) (T.basis tails.now)) known.now
+        number claim result }
+    ensures found { IsFoundBehind (tailed_of (matter_of case.now) (T.basis tails.now)) known.now
+        number found.new }
 {
     let next = known_after(case, tails, known, number);
     *found = Some(next);
@@ -141,30 +137,23 @@ fn judge_whole<T: Tails>(
 }
 
 /// Whether a claim is true of an open prefix with the column of a number more. Where the claim is
-/// of a rule of which a strict break is soon told, or of the chains that go on, no more is judged. It
-/// may be given which of S4 to S9 the column breaks.
+/// of a rule of which a strict break is soon told, or of the chains that go on, no more is judged.
 fn judge_with<T: Tails>(
     case: &Case<'_>,
     tails: &T,
     known: &PrefixKnown,
     number: usize,
     claim: Claim,
-    lines: Option<RuleSet>,
     found: &mut Option<PrefixKnown>,
 ) -> bool
     requires case { IsCase (matter_of case.now) }
     requires tails { HasTails (matter_of case.now) (T.basis tails.now) }
     requires step { IsStepOf (tailed_of (matter_of case.now) (T.basis tails.now)) number known.now }
     requires none { found.old ≡ None }
-    requires lines { TellsLines case.now.exercise.now known.now.judged.state
-        (slice_index_or (menu_of (T.basis tails.now).exercise known.now.judged.state.newest.len) number [])
-        lines }
-    ensures told { IsBehindKnown (tailed_of (matter_of case.now) (T.basis tails.now)) known.now number
-        (λ q. IsTrue result
-        ↔ (tree_in (tailed_of (matter_of case.now) (T.basis tails.now))).IsTrueOf q claim) }
-    ensures found { IfSome found.new (λ next.
-        IsBehindKnown (tailed_of (matter_of case.now) (T.basis tails.now)) known.now number
-        (IsKnown (tailed_of (matter_of case.now) (T.basis tails.now)) next)) }
+    ensures told { TellsTruthBehind (tailed_of (matter_of case.now) (T.basis tails.now)) known.now
+        number claim result }
+    ensures found { IsFoundBehind (tailed_of (matter_of case.now) (T.basis tails.now)) known.now
+        number found.new }
 {
     if let Claim::NoChain = claim {
         return ends_with(case, tails, known, number);
@@ -172,22 +161,47 @@ fn judge_with<T: Tails>(
     let i = known.judged.state.newest.len;
     let column = tails.column(i, number);
     let alone = tails.alone(i, number);
-    if is_break_told(case, &known.judged, column, alone, lines, claim) {
+    if is_break_told(case, &known.judged, column, alone, claim) {
         return true;
     }
     judge_whole(case, tails, known, number, claim, found)
 }
 
-/// Whether a claim is of a rule of melody, or of one before those.
-fn asks_lines(claim: Claim) -> bool {
-    match claim {
-        Claim::Broken(rule) => rule < 10,
-        _ => false,
+/// Whether a claim is soon told to be true of such a prefix, as it is of a rule that a voice breaks
+/// by its cell. Of each voice it is asked once what it breaks so, as long as its cell stays.
+fn is_voice_told<T: Tails>(
+    case: &Case<'_>,
+    tails: &T,
+    known: &mut PrefixKnown,
+    number: usize,
+    claim: Claim,
+) -> bool
+    requires case { IsCase (matter_of case.now) }
+    requires tails { HasTails (matter_of case.now) (T.basis tails.now) }
+    requires step { IsStepOf (tailed_of (matter_of case.now) (T.basis tails.now)) number known.old }
+    ensures told { OnTrue result
+        (IsBehindKnown (tailed_of (matter_of case.now) (T.basis tails.now)) known.old number
+        (λ q. (tree_in (tailed_of (matter_of case.now) (T.basis tails.now))).IsTrueOf q claim)) }
+    ensures kept { KeepsKnown (tailed_of (matter_of case.now) (T.basis tails.now)) known.old
+        known.new }
+{
+    let Claim::Broken(rule) = claim else {
+        return false;
+    };
+    if rule >= 10 {
+        return false;
     }
+    let column = tails.column(known.judged.state.newest.len, number);
+    is_broken_by_voice(
+        case.exercise,
+        &known.judged.state,
+        column,
+        &mut known.voices,
+        rule,
+    )
 }
 
-/// As `judge_with`. Of each voice it is asked once what it breaks of S4 to S9, as long as its cell
-/// stays.
+/// As `judge_with`, where what voices break is asked first.
 fn judge_on<T: Tails>(
     case: &Case<'_>,
     tails: &T,
@@ -200,26 +214,17 @@ fn judge_on<T: Tails>(
     requires tails { HasTails (matter_of case.now) (T.basis tails.now) }
     requires step { IsStepOf (tailed_of (matter_of case.now) (T.basis tails.now)) number known.old }
     requires none { found.old ≡ None }
-    ensures told { IsBehindKnown (tailed_of (matter_of case.now) (T.basis tails.now)) known.old number
-        (λ q. IsTrue result
-        ↔ (tree_in (tailed_of (matter_of case.now) (T.basis tails.now))).IsTrueOf q claim) }
-    ensures found { IfSome found.new (λ next.
-        IsBehindKnown (tailed_of (matter_of case.now) (T.basis tails.now)) known.old number
-        (IsKnown (tailed_of (matter_of case.now) (T.basis tails.now)) next)) }
+    ensures told { TellsTruthBehind (tailed_of (matter_of case.now) (T.basis tails.now)) known.old
+        number claim result }
+    ensures found { IsFoundBehind (tailed_of (matter_of case.now) (T.basis tails.now)) known.old
+        number found.new }
     ensures kept { KeepsKnown (tailed_of (matter_of case.now) (T.basis tails.now)) known.old
         known.new }
 {
-    if !asks_lines(claim) {
-        return judge_with(case, tails, known, number, claim, None, found);
+    if is_voice_told(case, tails, known, number, claim) {
+        return true;
     }
-    let column = tails.column(known.judged.state.newest.len, number);
-    let lines = ask_voices(
-        case.exercise,
-        &known.judged.state,
-        column,
-        &mut known.voices,
-    );
-    judge_with(case, tails, known, number, claim, Some(lines), found)
+    judge_with(case, tails, known, number, claim, found)
 }
 
 /// The first claim that is true of an open prefix with the column of a number more, by all that is
@@ -235,11 +240,10 @@ fn tell_whole<T: Tails>(
     requires tails { HasTails (matter_of case.now) (T.basis tails.now) }
     requires step { IsStepOf (tailed_of (matter_of case.now) (T.basis tails.now)) number known.now }
     requires none { found.old ≡ None }
-    ensures own { IsBehindKnown (tailed_of (matter_of case.now) (T.basis tails.now)) known.now number
-        (λ q. result ≡ own_in (tailed_of (matter_of case.now) (T.basis tails.now)) q) }
-    ensures found { IfSome found.new (λ next.
-        IsBehindKnown (tailed_of (matter_of case.now) (T.basis tails.now)) known.now number
-        (IsKnown (tailed_of (matter_of case.now) (T.basis tails.now)) next)) }
+    ensures own { TellsOwnBehind (tailed_of (matter_of case.now) (T.basis tails.now)) known.now
+        number result }
+    ensures found { IsFoundBehind (tailed_of (matter_of case.now) (T.basis tails.now)) known.now
+        number found.new }
 {
     let next = known_after(case, tails, known, number);
     *found = Some(next);
@@ -247,38 +251,8 @@ fn tell_whole<T: Tails>(
 }
 
 /// The first claim that is true of an open prefix with the column of a number more. Where it is of
-/// a rule that is soon told, no more is judged. It may be given which of S4 to S9 the column breaks.
-fn tell_with<T: Tails>(
-    case: &Case<'_>,
-    tails: &T,
-    known: &PrefixKnown,
-    number: usize,
-    lines: Option<RuleSet>,
-    found: &mut Option<PrefixKnown>,
-) -> Claim
-    requires case { IsCase (matter_of case.now) }
-    requires tails { HasTails (matter_of case.now) (T.basis tails.now) }
-    requires step { IsStepOf (tailed_of (matter_of case.now) (T.basis tails.now)) number known.now }
-    requires none { found.old ≡ None }
-    requires lines { TellsLines case.now.exercise.now known.now.judged.state
-        (slice_index_or (menu_of (T.basis tails.now).exercise known.now.judged.state.newest.len) number [])
-        lines }
-    ensures own { IsBehindKnown (tailed_of (matter_of case.now) (T.basis tails.now)) known.now number
-        (λ q. result ≡ own_in (tailed_of (matter_of case.now) (T.basis tails.now)) q) }
-    ensures found { IfSome found.new (λ next.
-        IsBehindKnown (tailed_of (matter_of case.now) (T.basis tails.now)) known.now number
-        (IsKnown (tailed_of (matter_of case.now) (T.basis tails.now)) next)) }
-{
-    let i = known.judged.state.newest.len;
-    let column = tails.column(i, number);
-    let alone = tails.alone(i, number);
-    if let Some(rule) = told_break(case, &known.judged, column, alone, lines) {
-        return Claim::Broken(rule);
-    }
-    tell_whole(case, tails, known, number, found)
-}
-
-/// As `tell_with`, and as `judge_on`.
+/// a rule that is soon told, no more is judged. Of each voice it is asked once what it breaks, as
+/// long as its cell stays.
 fn tell_on<T: Tails>(
     case: &Case<'_>,
     tails: &T,
@@ -290,22 +264,26 @@ fn tell_on<T: Tails>(
     requires tails { HasTails (matter_of case.now) (T.basis tails.now) }
     requires step { IsStepOf (tailed_of (matter_of case.now) (T.basis tails.now)) number known.old }
     requires none { found.old ≡ None }
-    ensures own { IsBehindKnown (tailed_of (matter_of case.now) (T.basis tails.now)) known.old number
-        (λ q. result ≡ own_in (tailed_of (matter_of case.now) (T.basis tails.now)) q) }
-    ensures found { IfSome found.new (λ next.
-        IsBehindKnown (tailed_of (matter_of case.now) (T.basis tails.now)) known.old number
-        (IsKnown (tailed_of (matter_of case.now) (T.basis tails.now)) next)) }
+    ensures own { TellsOwnBehind (tailed_of (matter_of case.now) (T.basis tails.now)) known.old
+        number result }
+    ensures found { IsFoundBehind (tailed_of (matter_of case.now) (T.basis tails.now)) known.old
+        number found.new }
     ensures kept { KeepsKnown (tailed_of (matter_of case.now) (T.basis tails.now)) known.old
         known.new }
 {
-    let column = tails.column(known.judged.state.newest.len, number);
-    let lines = ask_voices(
+    let i = known.judged.state.newest.len;
+    let column = tails.column(i, number);
+    let alone = tails.alone(i, number);
+    let line = ask_voices(
         case.exercise,
         &known.judged.state,
         column,
         &mut known.voices,
     );
-    tell_with(case, tails, known, number, Some(lines), found)
+    if let Some(rule) = told_break(case, &known.judged, column, alone, line) {
+        return Claim::Broken(rule);
+    }
+    tell_whole(case, tails, known, number, found)
 }
 
 impl<'a, T: Tails> TailedCase<'a, T> {

@@ -38,3 +38,4 @@ pub mod SumLemmas
 pub mod ToldFinds
 pub mod ToldLemmas
 pub mod Unmixed
+pub mod VoiceBreaks

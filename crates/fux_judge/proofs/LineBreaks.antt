@@ -23,7 +23,7 @@ use Rattle.melody_rules.specs.Smooth.{is_rough, is_rough_in, is_rough_line, is_r
 use Rattle.melody_rules.proofs.VoiceLemmas.{first_pitch}
 use Rattle.fux_judge.specs.Crates.{Melody}
 use Rattle.fux_judge.specs.Penalties.{is_strict_at, newly_broken}
-use Rattle.fux_judge.specs.Rules.{all_sets, breaks, is_broken, is_late, is_of_melody, is_read, rule_at, rules_read}
+use Rattle.fux_judge.specs.Rules.{all_sets, breaks, is_broken, is_late, is_of_melody, rule_at}
 use Rattle.fux_judge.specs.Told.{breaks_after, breaks_in, breaks_line, is_of_line, line_rules}
 use Rattle.fux_judge.proofs.ChargeLemmas.{latest_of_line}
 use Rattle.fux_judge.proofs.CrateLemmas.{breaks_by_crate, in_melody}
@@ -41,13 +41,6 @@ lines_soon = refl
 
 pub lines_at_once : (rule : ℕ) → is_of_line rule ≡ true → is_late rule ≡ false
 lines_at_once rule h = not-true (is_late rule) (one_of (λ r. not (is_late r)) rule line_rules lines_soon h)
-
-lines_read : list_all is_read line_rules ≡ true
-unfolding rules_read
-lines_read = refl
-
-pub line_is_read : (rule : ℕ) → is_of_line rule ≡ true → is_read rule ≡ true
-line_is_read rule h = one_of is_read rule line_rules lines_read h
 
 -- ---- smooth voices
 
@@ -89,17 +82,6 @@ kept_in ex v cells now rule h =
     at true true rough h k = k h
     at true false rough h k = refl
     at false free rough h k = refl
-
--- ---- what follows from a first part
-
-pub under : (a x y : Bool) → (a ≡ true → x ≡ y) → (a && x) ≡ (a && y)
-under true x y h = h refl
-under false x y h = refl
-
-pub none_of_it : (a b c : Bool) → b ≡ false → (a && (b && c)) ≡ false
-none_of_it true true c h = cc
-none_of_it true false c h = refl
-none_of_it false b c h = refl
 
 -- ---- voices
 

@@ -1,39 +1,29 @@
--- The first rule that is broken of those that are told is the least of all where S3 isn't broken
--- (`told_is_least`).
-use Rattle.std.proofs.Common.{◌≡◌, ℕ, zero, suc, ◌+◌, ◌*◌, ◌/◌, ◌<◌, ◌≤◌, ◌==◌, ◌&&◌, ◌||◌, Bool, true, false, List, [], ◌∷◌, ◌++◌, drop, length, reverse, slice_index_or, subst, refl, ap, sym, ◌∙◌, arith}
-use Rattle.std.specs.Prelude.{IsSomeAnd, Option, Some, None, cond, not}
+-- The first rule of those that a voice breaks by its cells is the least of all (`voice_is_least`), and
+-- where there is none, the first of those of several voices (`joint_is_least`).
+use Rattle.std.proofs.Common.{◌≡◌, ℕ, ◌+◌, ◌<◌, ◌≤◌, ◌==◌, ◌&&◌, ◌||◌, Bool, true, false, List, [], ◌∷◌, ◌++◌, drop, length, reverse, slice_index_or, subst, refl, ap, sym, ◌∙◌, arith}
+use Rattle.std.specs.Prelude.{Option, Some, None, cond, not}
 use Rattle.std.specs.List.{find, list_all, list_any}
 use Rattle.std.proofs.Math.Seq.{get_or-append_seam}
 use Rattle.std.specs.Option.{option_or}
-use Rattle.std.proofs.lemmas.Bool.{and_from, and_parts, eqb-true, not-true}
+use Rattle.std.proofs.lemmas.Bool.{and_from, eqb-true, not-true}
 use Rattle.std.proofs.lemmas.List.{length-append}
 use Rattle.std.proofs.lemmas.List.Folds.{find-append}
 use Rattle.fux_grid.specs.declared.cell.Cell.{Cell}
 use Rattle.fux_grid.specs.declared.exercise.Exercise.{Exercise}
 use Rattle.fux_grid.specs.Menus.{IsInMenu}
-use Rattle.melody_rules.specs.Smooth.{some_rough}
-use Rattle.rule_law.specs.declared.sets.RuleSet.{RuleSet}
-use Rattle.rule_law.specs.declared.table.Form.TheVariants.{OneVoice}
-use Rattle.rule_law.specs.Forms.{sets_of}
-use Rattle.rule_law.specs.Growth.{any_below, list_any-same}
-use Rattle.rule_law.specs.Law.{first_true, second_true}
+use Rattle.rule_law.specs.Law.{first_true, reading-at_end, second_true}
+use Rattle.rule_law.specs.Nearby.{previous_pitches}
 use Rattle.rule_law.specs.Prefixes.{GoesOn}
-use Rattle.rule_law.specs.Rulebooks.{IsAmong, newly_breaks}
-use Rattle.rule_law.specs.Voices.{has_rule}
-use Rattle.rhythm_cadence.specs.Book.{shape_rule}
 use Rattle.fux_judge.specs.declared.moment.Moment.{Moment}
 use Rattle.fux_judge.specs.Links.{breaks_strictly}
 use Rattle.fux_judge.specs.Moments.{IsAfter, is_strictly_broken_then}
-use Rattle.fux_judge.specs.Penalties.{is_strict_at, newly_broken, newly_broken_at}
-use Rattle.fux_judge.specs.Rules.{all_sets, is_broken, is_late, is_of_melody, is_read, late_rules, rule_at, rules_at_once, rules_read}
-use Rattle.fux_judge.specs.States.{IsStateOf}
-use Rattle.fux_judge.specs.Told.{TellsLines, first_rules, is_of_line, joint_rules, least_alone, least_newly_broken, line_rules}
-use Rattle.fux_judge.specs.declared.state.State.{State}
+use Rattle.fux_judge.specs.Penalties.{is_strict_at, newly_broken}
+use Rattle.fux_judge.specs.Rules.{all_sets, breaks, is_broken, is_late, is_read, late_rules, rule_at, rules_at_once, rules_read}
+use Rattle.fux_judge.specs.Told.{joint_rules, least_alone, least_newly_broken, voice_rules}
 use Rattle.fux_judge.proofs.AlwaysLemmas.{breaks_here, clashed, crossed, ended_apart, met}
-use Rattle.fux_judge.proofs.KeptLemmas.{melody_kept, menu_kept}
-use Rattle.fux_judge.proofs.LineBreaks.{line_is_read, lines_at_once}
+use Rattle.fux_judge.proofs.MenuBreaks.{keeps_gamut, keeps_ranges}
 use Rattle.fux_judge.proofs.Parts.{list_all-kept}
-use Rattle.fux_judge.proofs.StepPlaces.{newly_broken-at_once, newly_broken-late}
+use Rattle.fux_judge.proofs.StepPlaces.{newly_broken-at_once}
 
 -- ---- the first of a list
 
@@ -45,41 +35,30 @@ find_where test f g (x ∷ xs) h e =
     ap (λ b. cond b (Some x) (find f xs)) (e x (first_true (test x) (list_all test xs) h))
     ∙ ap (λ o. cond (g x) (Some x) o) (find_where test f g xs (second_true (test x) (list_all test xs) h) e)
 
+-- nothing is found of a test that all fail
+pub none_found : (f : ℕ → Bool) (xs : List ℕ) → ((x : ℕ) → f x ≡ false) → find f xs ≡ None
+none_found f [] none = refl
+none_found f (x ∷ xs) none = ap (λ b. cond b (Some x) (find f xs)) (none x) ∙ none_found f xs none
+
 -- ---- the rules
 
 later_rules : List ℕ
 later_rules = drop 14 rules_read
 
-all_soon : list_all (λ rule. not (is_late rule)) first_rules ≡ true
+joint_soon : list_all (λ rule. not (is_late rule)) joint_rules ≡ true
 unfolding rule_at
-all_soon = refl
+joint_soon = refl
 
--- what is found among the first is found among all, where S1, S2 and S3 aren't broken
-found_in_all : (f : ℕ → Bool) (rule : ℕ) → find f first_rules ≡ Some rule → f 1 ≡ false → f 2 ≡ false → f 3 ≡ false
-    → find f rules_read ≡ Some rule
+-- what is found of all rules, where S1 and S2 aren't broken, is found of those of one voice, or else
+-- of those of several, or else of the others
+found_in_all : (f : ℕ → Bool) → f 1 ≡ false → f 2 ≡ false
+    → find f rules_read ≡ option_or (find f voice_rules) (option_or (find f joint_rules) (find f later_rules))
 unfolding rules_read later_rules
-found_in_all f rule e first second third =
-    ap (λ b. cond b (Some 1) (cond (f 2) (Some 2) (cond (f 3) (Some 3) (find f (first_rules ++ later_rules))))) first
-    ∙ ap (λ b. cond b (Some 2) (cond (f 3) (Some 3) (find f (first_rules ++ later_rules)))) second
-    ∙ ap (λ b. cond b (Some 3) (find f (first_rules ++ later_rules))) third
-    ∙ find-append f first_rules later_rules
-    ∙ ap (λ o. option_or o (find f later_rules)) e
-
--- S3 is found where it is broken, and S1 and S2 aren't
-shapes_found : (f : ℕ → Bool) → f 1 ≡ false → f 2 ≡ false → f 3 ≡ true → find f rules_read ≡ Some 3
-unfolding rules_read later_rules
-shapes_found f first second third =
-    ap (λ b. cond b (Some 1) (cond (f 2) (Some 2) (cond (f 3) (Some 3) (find f (first_rules ++ later_rules))))) first
-    ∙ ap (λ b. cond b (Some 2) (cond (f 3) (Some 3) (find f (first_rules ++ later_rules)))) second
-    ∙ ap (λ b. cond b (Some 3) (find f (first_rules ++ later_rules))) third
-
--- nothing is found of tests that all fail
-none_found : (f test : ℕ → Bool) (xs : List ℕ) → list_all test xs ≡ true → ((x : ℕ) → test x ≡ true → f x ≡ false)
-    → find f xs ≡ None
-none_found f test [] h none = refl
-none_found f test (x ∷ xs) h none =
-    ap (λ b. cond b (Some x) (find f xs)) (none x (first_true (test x) (list_all test xs) h))
-    ∙ none_found f test xs (second_true (test x) (list_all test xs) h) none
+found_in_all f first second =
+    ap (λ b. cond b (Some 1) (cond (f 2) (Some 2) (find f (voice_rules ++ (joint_rules ++ later_rules))))) first
+    ∙ ap (λ b. cond b (Some 2) (find f (voice_rules ++ (joint_rules ++ later_rules)))) second
+    ∙ find-append f voice_rules (joint_rules ++ later_rules)
+    ∙ ap (option_or (find f voice_rules)) (find-append f joint_rules later_rules)
 
 one_among : (test : ℕ → Bool) (x : ℕ) (xs : List ℕ) → list_all test xs ≡ true → list_any (λ y. y == x) xs ≡ true
     → test x ≡ true
@@ -98,16 +77,16 @@ both_soon = refl
 range_at_once : (rule : ℕ) → list_any (λ y. y == rule) (1 ∷ 2 ∷ []) ≡ true → is_late rule ≡ false
 range_at_once rule h = not-true (is_late rule) (one_among (λ r. not (is_late r)) rule (1 ∷ 2 ∷ []) both_soon h)
 
-all_read : list_all is_read first_rules ≡ true
+joint_read : list_all is_read joint_rules ≡ true
 unfolding rules_read
-all_read = refl
+joint_read = refl
 
--- each of them is settled at once, and read
-pub told_at_once : (rule : ℕ) → list_any (λ y. y == rule) first_rules ≡ true → is_late rule ≡ false
-told_at_once rule h = not-true (is_late rule) (one_among (λ r. not (is_late r)) rule first_rules all_soon h)
+-- each of several is settled at once, and read
+pub told_at_once : (rule : ℕ) → list_any (λ y. y == rule) joint_rules ≡ true → is_late rule ≡ false
+told_at_once rule h = not-true (is_late rule) (one_among (λ r. not (is_late r)) rule joint_rules joint_soon h)
 
-pub told_is_read : (rule : ℕ) → list_any (λ y. y == rule) first_rules ≡ true → is_read rule ≡ true
-told_is_read rule h = one_among is_read rule first_rules all_read h
+told_is_read : (rule : ℕ) → list_any (λ y. y == rule) joint_rules ≡ true → is_read rule ≡ true
+told_is_read rule h = one_among is_read rule joint_rules joint_read h
 
 -- each rule that is read is late, or settled at once
 all_at_once : list_all (λ rule. not (is_late rule)) rules_at_once ≡ true
@@ -136,10 +115,6 @@ at_once_among rule h = (
 pub late_among : (rule : ℕ) → list_any (λ y. y == rule) late_rules ≡ true → (is_late rule ≡ true) × (is_read rule ≡ true)
 late_among rule h = (one_among is_late rule late_rules all_late h, one_among is_read rule late_rules late_read h)
 
-pub third_is_read : is_read 3 ≡ true
-unfolding rules_read
-third_is_read = refl
-
 module _ (ex : Exercise) (p : List (List Cell)) (col : List Cell) (m : Moment) (same : m.exercise.now ≡ ex)
     (its : m.column.now ≡ col) where
   -- what is read at the moment is what the column settles
@@ -153,61 +128,63 @@ module _ (ex : Exercise) (p : List (List Cell)) (col : List Cell) (m : Moment) (
       all_sets) its
       ∙ sym (newly_broken-at_once ex p col rule late)
 
-  -- where it is smooth, none of melody is found
-  pub none_of_lines : some_rough m.exercise.now (reverse p) m.column.now ≡ false
-      → find (λ r. is_strictly_broken_then all_sets r p m) line_rules ≡ None
-  none_of_lines smooth =
-      none_found (λ r. is_strictly_broken_then all_sets r p m) is_of_melody line_rules refl (melody_kept p m smooth)
+  -- so it is found of those of several voices
+  pub joint_newly : find (λ r. is_strictly_broken_then all_sets r p m) joint_rules ≡ find (newly_broken ex p col) joint_rules
+  joint_newly =
+      find_where (λ r. not (is_late r)) (λ r. is_strictly_broken_then all_sets r p m) (newly_broken ex p col)
+      joint_rules joint_soon (λ r h. strictly_newly r (not-true (is_late r) h))
 
-  -- those that are told of are found
-  pub lines_found : (bits : ℕ)
-      → ((rule : ℕ) → has_rule bits rule ≡ (is_of_line rule && newly_broken ex p col rule))
-      → find (has_rule bits) line_rules ≡ find (λ r. is_strictly_broken_then all_sets r p m) line_rules
-  lines_found bits told =
-      find_where is_of_line (has_rule bits) (λ r. is_strictly_broken_then all_sets r p m) line_rules refl
-      (λ r h. told r ∙ ap (λ b. b && newly_broken ex p col r) h ∙ sym (strictly_newly r (lines_at_once r h)))
+-- no set passes two tests of which it never passes the first
+none_of_both : (test other : ℕ → Bool) (sets : List ℕ) → ((voices : ℕ) → test voices ≡ false)
+    → list_any (λ voices. test voices && other voices) sets ≡ false
+none_of_both test other [] h = refl
+none_of_both test other (x ∷ xs) h =
+    ap (λ b. (b && other x) || list_any (λ voices. test voices && other voices) xs) (h x)
+    ∙ none_of_both test other xs h
 
-  -- a column of a menu breaks neither S1 nor S2
-  low_kept : GoesOn ex p (col ∷ []) → (newly_broken ex p col 1 ≡ false) × (newly_broken ex p col 2 ≡ false)
-  low_kept on =
+module _ (ex : Exercise) (p : List (List Cell)) (col : List Cell) (on : GoesOn ex p (col ∷ [])) where
+  -- it is a column of its menu
+  chosen : IsInMenu ex (length p) col
+  chosen =
       let here : slice_index_or (p ++ col ∷ []) (length p) [] ≡ col = get_or-append_seam p col [] [] in
       let placed : length p < length (p ++ col ∷ []) = omega (arith, length-append p (col ∷ [])) in
-      let menu : IsInMenu m.exercise.now (length p) m.column.now =
-      subst (λ (e : Exercise). IsInMenu e (length p) m.column.now) (sym same)
-      (subst (λ (c : List Cell). IsInMenu ex (length p) c) (here ∙ sym its) (on.longer.menus (length p) placed)) in
-      let kept = menu_kept p m menu in (
-        sym (strictly_newly 1 (range_at_once 1 refl)) ∙ kept.0,
-        sym (strictly_newly 2 (range_at_once 2 refl)) ∙ kept.1,
-      )
+      subst (λ (c : List Cell). IsInMenu ex (length p) c) here (on.longer.menus (length p) placed)
 
-  pub told_is_least : (rule : ℕ) → Some rule ≡ find (λ r. is_strictly_broken_then all_sets r p m) first_rules
-      → GoesOn ex p (col ∷ []) → newly_broken ex p col 3 ≡ false → least_newly_broken ex p col ≡ Some rule
-  told_is_least rule e on third =
-      found_in_all (newly_broken ex p col) rule
-      (sym (find_where (λ r. not (is_late r)) (λ r. is_strictly_broken_then all_sets r p m) (newly_broken ex p col)
-      first_rules all_soon (λ r h. strictly_newly r (not-true (is_late r) h)))
-      ∙ sym e)
-      (low_kept on).0 (low_kept on).1 third
+  -- so it breaks neither S1 nor S2
+  first_kept : newly_broken ex p col 1 ≡ false
+  unfolding rule_at
+  first_kept =
+      newly_broken-at_once ex p col 1 (range_at_once 1 refl)
+      ∙ none_of_both (λ voices. is_broken 1 ex voices (p ++ col ∷ []) (length p))
+      (λ voices. is_strict_at 1 ex voices (length p)) all_sets
+      (λ voices. reading-at_end (breaks 1 ex voices) p col
+      ∙ keeps_ranges ex (length p) (previous_pitches (reverse p)) col chosen voices)
 
-  pub third_is_least : GoesOn ex p (col ∷ []) → newly_broken ex p col 3 ≡ true → least_newly_broken ex p col ≡ Some 3
-  third_is_least on third = shapes_found (newly_broken ex p col) (low_kept on).0 (low_kept on).1 third
+  second_kept : newly_broken ex p col 2 ≡ false
+  unfolding rule_at
+  second_kept =
+      newly_broken-at_once ex p col 2 (range_at_once 2 refl)
+      ∙ none_of_both (λ voices. is_broken 2 ex voices (p ++ col ∷ []) (length p))
+      (λ voices. is_strict_at 2 ex voices (length p)) all_sets
+      (λ voices. reading-at_end (breaks 2 ex voices) p col
+      ∙ keeps_gamut ex (length p) (previous_pitches (reverse p)) col chosen voices)
+
+  module _ (rule : ℕ) where
+    pub voice_is_least : Some rule ≡ find (newly_broken ex p col) voice_rules → least_newly_broken ex p col ≡ Some rule
+    voice_is_least e =
+        found_in_all (newly_broken ex p col) first_kept second_kept
+        ∙ ap (λ o. option_or o (option_or (find (newly_broken ex p col) joint_rules) (find (newly_broken ex p col) later_rules)))
+        (sym e)
+
+    pub joint_is_least : None ≡ find (newly_broken ex p col) voice_rules
+        → Some rule ≡ find (newly_broken ex p col) joint_rules → least_newly_broken ex p col ≡ Some rule
+    joint_is_least none e =
+        found_in_all (newly_broken ex p col) first_kept second_kept
+        ∙ ap (λ o. option_or o (option_or (find (newly_broken ex p col) joint_rules) (find (newly_broken ex p col) later_rules)))
+        (sym none)
+        ∙ ap (λ o. option_or o (find (newly_broken ex p col) later_rules)) (sym e)
 
 -- ---- what a column decides by itself
-
-joint_are : joint_rules ≡ 10 ∷ 11 ∷ 12 ∷ 13 ∷ 14 ∷ []
-unfolding rule_at joint_rules
-joint_are = refl
-
--- what is found of the first rules is found of those of melody, or else of the others
-first_parts : (f : ℕ → Bool) → find f first_rules ≡ option_or (find f line_rules) (find f joint_rules)
-first_parts f = ap (λ rules. find f (line_rules ++ rules)) (sym joint_are) ∙ find-append f line_rules joint_rules
-
-pub by_line : (f : ℕ → Bool) (rule : ℕ) → Some rule ≡ find f line_rules → Some rule ≡ find f first_rules
-by_line f rule e = ap (λ o. option_or o (find f joint_rules)) e ∙ sym (first_parts f)
-
-pub by_joint : (f : ℕ → Bool) (found : Option ℕ) → None ≡ find f line_rules → found ≡ find f joint_rules
-    → found ≡ find f first_rules
-by_joint f found none e = e ∙ ap (λ o. option_or o (find f joint_rules)) none ∙ sym (first_parts f)
 
 -- the first of four that pass, and of five: the third of these is before the last two
 abbrev first_of_four : Bool → Bool → Bool → Bool → Option ℕ
@@ -284,20 +261,17 @@ module _ (p : List (List Cell)) (m : Moment) (after : IsAfter p m) where
   module _ (rule : ℕ) (e : least_alone m.exercise.now m.state.now.newest.len m.column.now ≡ Some rule) where
     pub early_joint : rule < 12 → find (λ r. is_strictly_broken_then all_sets r p m) joint_rules ≡ Some rule
     early_joint low =
-        ap (find test) joint_are
-        ∙ early_first (test 10) (test 11) (test 12) (test 13) (test 14) rule (found_alone rule e) low
+        early_first (test 10) (test 11) (test 12) (test 13) (test 14) rule (found_alone rule e) low
 
     pub third_joint : 12 ≤ rule → is_strictly_broken_then all_sets 12 p m ≡ true
         → find (λ r. is_strictly_broken_then all_sets r p m) joint_rules ≡ Some 12
     third_joint high t =
-        ap (find test) joint_are
-        ∙ third_first (test 10) (test 11) (test 12) (test 13) (test 14) rule (found_alone rule e) high t
+        third_first (test 10) (test 11) (test 12) (test 13) (test 14) rule (found_alone rule e) high t
 
     pub late_joint : 12 ≤ rule → is_strictly_broken_then all_sets 12 p m ≡ false
         → find (λ r. is_strictly_broken_then all_sets r p m) joint_rules ≡ Some rule
     late_joint high t =
-        ap (find test) joint_are
-        ∙ late_first (test 10) (test 11) (test 12) (test 13) (test 14) rule (found_alone rule e) high t
+        late_first (test 10) (test 11) (test 12) (test 13) (test 14) rule (found_alone rule e) high t
 
 -- what holds of each of the four where it is the one that is found holds of the one that is found
 of_found : (P : ℕ → Type 0) (a b c d : Bool) (rule : ℕ) → first_of_four a b c d ≡ Some rule → (a ≡ true → P 10)
@@ -320,72 +294,8 @@ alone_newly ex p col rule e =
     (λ h. settled 13 refl (ended_apart ex p col ∙ h))
     (λ h. settled 14 refl (clashed ex p col ∙ h))
   where
-    settled : (r : ℕ) → list_any (λ y. y == r) first_rules ≡ true → breaks_here ex p col r ≡ true
+    settled : (r : ℕ) → list_any (λ y. y == r) joint_rules ≡ true → breaks_here ex p col r ≡ true
         → (is_read r && newly_broken ex p col r) ≡ true
     settled r among h =
         and_from (is_read r) (newly_broken ex p col r) (told_is_read r among)
         (newly_broken-at_once ex p col r (told_at_once r among) ∙ h)
-
--- of a rule that is told to be among those of melody that it breaks, too
-pub among_newly : (ex : Exercise) (state : State) (p : List (List Cell)) (col : List Cell) (lines : Option RuleSet)
-    (rule : ℕ) → IsSomeAnd lines (λ set. has_rule set.bits rule ≡ true) → TellsLines ex state col lines
-    → IsStateOf ex p state → (is_read rule && newly_broken ex p col rule) ≡ true
-among_newly ex state p col None rule has tells is = absurd has
-among_newly ex state p col (Some set) rule has tells is =
-    let parts = and_parts (is_of_line rule) (newly_broken ex p col rule) (sym (tells p is rule) ∙ has) in
-    and_from (is_read rule) (newly_broken ex p col rule) (line_is_read rule parts.0) parts.1
-
--- ---- S3
-
-third_is_late : is_late 3 ≡ true
-unfolding rule_at
-third_is_late = refl
-
--- its one place is the beginning of the column's bar
-pub third_among : (n place : ℕ) → place ≡ 8 * (n / 8) → IsAmong (8 * (n / 8)) 1 place
-third_among n place e = record { from = omega (arith, e); to = omega (arith, e) }
-
--- it is never relaxed
-strict_third : (ex : Exercise) (voices i : ℕ) → is_strict_at 3 ex voices i ≡ true
-strict_third ex voices i = refl
-
-third_at : (ex : Exercise) (p : List (List Cell)) (col : List Cell) (place voices : ℕ)
-    → newly_broken_at 3 ex voices p col place ≡ newly_breaks shape_rule ex voices p col place
-unfolding rule_at
-third_at ex p col place voices =
-    ap (λ b. newly_breaks shape_rule ex voices p col place && b) (strict_third ex voices place)
-    ∙ with_true (newly_breaks shape_rule ex voices p col place)
-  where
-    with_true : (b : Bool) → (b && true) ≡ b
-    with_true true = refl
-    with_true false = refl
-
-any_of_one : (test : ℕ → Bool) → any_below test 1 ≡ test 0
-any_of_one test = refl
-
--- so it is read of each voice at that place
-pub third_is : (ex : Exercise) (p : List (List Cell)) (col : List Cell) (place : ℕ) → place ≡ 8 * (length p / 8)
-    → GoesOn ex p (col ∷ [])
-    → newly_broken ex p col 3
-    ≡ list_any (λ voices. newly_breaks shape_rule ex voices p col place) (sets_of OneVoice ex.voices)
-unfolding rule_at
-third_is ex p col place e on =
-    let test : ℕ → Bool = λ i. list_any (λ voices. newly_broken_at 3 ex voices p col i) (sets_of OneVoice ex.voices) in
-    let first : 8 * (length p / 8) + 0 ≡ place = omega (arith, e) in
-    newly_broken-late ex p col 3 third_is_late on
-    ∙ any_of_one (λ k. test (8 * (length p / 8) + k))
-    ∙ ap test first
-    ∙ list_any-same (λ voices. newly_broken_at 3 ex voices p col place)
-    (λ voices. newly_breaks shape_rule ex voices p col place) (sets_of OneVoice ex.voices) (third_at ex p col place)
-
--- one that passes is found
-pub any_at : (test : ℕ → Bool) (xs : List ℕ) (i d : ℕ) → i < length xs → test (slice_index_or xs i d) ≡ true
-    → list_any test xs ≡ true
-any_at test [] i d low h = absurd (omega (arith, low))
-any_at test (x ∷ xs) zero d low h = ap (λ b. b || list_any test xs) h
-any_at test (x ∷ xs) (suc i) d low h =
-    ap (λ b. test x || b) (any_at test xs i d (omega (arith, low)) h) ∙ or_true (test x)
-  where
-    or_true : (b : Bool) → (b || true) ≡ true
-    or_true true = refl
-    or_true false = refl

@@ -1,34 +1,37 @@
 -- Which rules that a column breaks are told without judging all of it.
-use Rattle.std.specs.Prelude.{◌≡◌, ℕ, ◌==◌, ◌&&◌, ◌^◌, Bool, not, nat_lt, List, [], ◌∷◌, Option, None, IfSome, length, reverse, if◌then◌else◌}
-use Rattle.std.specs.List.{filter, find, list_any}
+use Rattle.std.specs.Prelude.{◌≡◌, ℕ, ◌==◌, ◌&&◌, ◌^◌, Bool, nat_lt, List, [], ◌∷◌, Option, None, length, reverse, if◌then◌else◌}
+use Rattle.std.specs.List.{find, list_any}
 use Rattle.fux_grid.specs.declared.cell.Cell.{Cell}
 use Rattle.fux_grid.specs.declared.exercise.Exercise.{Exercise}
 use Rattle.fux_grid.specs.Columns.{Columns, line}
 use Rattle.fux_grid.specs.Exercises.{species_in}
 use Rattle.fux_pitch.specs.declared.pitch.Pitch.{Pitch}
 use Rattle.melody_rules.specs.Rows.{last_of, looks_back, pitches, voice_rule, window_rule}
-use Rattle.rule_law.specs.declared.sets.RuleSet.{RuleSet}
-use Rattle.rule_law.specs.Voices.{has_rule, is_free}
+use Rattle.rhythm_cadence.specs.Told.{leaves_by_cell}
+use Rattle.rule_law.specs.Voices.{is_free}
 use Rattle.fux_judge.specs.Links.{breaks_strictly}
 use Rattle.fux_judge.specs.Penalties.{is_strict_at, newly_broken}
-use Rattle.fux_judge.specs.Rules.{is_of_melody, rules_read}
-use Rattle.fux_judge.specs.States.{IsStateOf}
+use Rattle.fux_judge.specs.Rules.{rules_read}
+use Rattle.fux_judge.specs.Verdicts.{GoingOn}
 use Rattle.fux_judge.specs.declared.state.State.{State}
 
--- the rules from S4 to S14: all are settled at once, and a column of a menu keeps S1 and S2
-abbrev pub first_rules : List ℕ
-first_rules = 4 ∷ 5 ∷ 6 ∷ 7 ∷ 8 ∷ 9 ∷ 10 ∷ 11 ∷ 12 ∷ 13 ∷ 14 ∷ []
+-- the rules that a voice breaks by its cells: S3, and those of melody
+abbrev pub voice_rules : List ℕ
+voice_rules = 3 ∷ 4 ∷ 5 ∷ 6 ∷ 7 ∷ 8 ∷ 9 ∷ []
 
--- those of them that are of melody
+abbrev pub is_of_voice : ℕ → Bool
+is_of_voice rule = list_any (λ other. rule == other) voice_rules
+
+-- those of melody alone
 abbrev pub line_rules : List ℕ
 line_rules = 4 ∷ 5 ∷ 6 ∷ 7 ∷ 8 ∷ 9 ∷ []
 
 abbrev pub is_of_line : ℕ → Bool
 is_of_line rule = list_any (λ other. rule == other) line_rules
 
--- those that aren't
-unfoldable pub joint_rules : List ℕ
-joint_rules = filter (λ rule. not (is_of_melody rule)) first_rules
+-- those from S10 to S14, which several voices break together
+abbrev pub joint_rules : List ℕ
+joint_rules = 10 ∷ 11 ∷ 12 ∷ 13 ∷ 14 ∷ []
 
 -- those of these that a column decides by itself
 abbrev pub alone_rules : List ℕ
@@ -38,7 +41,7 @@ alone_rules = 10 ∷ 11 ∷ 13 ∷ 14 ∷ []
 unfoldable pub least_alone : Exercise → ℕ → List Cell → Option ℕ
 least_alone ex i col = find (breaks_strictly ex i None col) alone_rules
 
--- one of them is broken by a cell, after notes of these pitches
+-- a rule of melody is broken by a cell, after notes of these pitches
 abbrev pub breaks_after : ℕ → List Pitch → Cell → ℕ → Bool
 breaks_after species ps now rule =
     if looks_back rule then window_rule rule ps now else voice_rule rule species (last_of ps) now
@@ -53,15 +56,17 @@ abbrev pub breaks_line : Exercise → Columns → ℕ → Cell → ℕ → Bool
 breaks_line ex p v now rule =
     breaks_in ex v (line v (reverse p)) now rule && is_strict_at rule ex (2 ^ v) (length p)
 
--- a set has those of S4 to S9 that the voice breaks so
-abbrev pub HasLineBreaks : Exercise → Columns → ℕ → Cell → ℕ → Type 0
-HasLineBreaks ex p v now bits = (rule : ℕ) → has_rule bits rule ≡ (is_of_line rule && breaks_line ex p v now rule)
+-- so it breaks one of S4 to S9, or S3, by having no shape left
+abbrev pub breaks_by_cell : Exercise → Columns → ℕ → Cell → ℕ → Bool
+breaks_by_cell ex p v now rule = if rule == 3 then leaves_by_cell ex v p now else breaks_line ex p v now rule
 
--- where a set is told, it has those of S4 to S9 of which the column settles a strict break
-abbrev pub TellsLines : Exercise → State → List Cell → Option RuleSet → Type 0
-TellsLines ex state col told =
-    IfSome told (λ set. (p : Columns) → IsStateOf ex p state
-    → (rule : ℕ) → has_rule set.bits rule ≡ (is_of_line rule && newly_broken ex p col rule))
+-- the least of these rules that it breaks so
+abbrev pub least_by_cell : Exercise → Columns → ℕ → Cell → Option ℕ
+least_by_cell ex p v now = find (breaks_by_cell ex p v now) voice_rules
+
+-- the least of them of which a column settles a strict break, if there is one
+abbrev pub TellsLine : Exercise → State → List Cell → Option ℕ → Type 0
+TellsLine ex state col told = GoingOn ex state col (λ p added. told ≡ find (newly_broken ex p added) voice_rules)
 
 -- the least rule of which the column settles a strict break
 abbrev pub least_newly_broken : Exercise → Columns → List Cell → Option ℕ

@@ -49,10 +49,10 @@ fn begins_no_line(m: &Moment<'_>) -> bool
 
 /// Whether the column keeps S12: where no voice's first note starts in it, nothing has to fit.
 #[inline]
-fn opens_well(m: &Moment<'_>) -> bool
+pub(crate) fn opens_well(m: &Moment<'_>) -> bool
     requires { IsReadable m.now }
-    ensures { (p : Columns) → IsAfter p m.now → IsTrue result → is_strictly_broken_then all_sets 12
-        p m.now ≡ false }
+    ensures { (p : Columns) → IsAfter p m.now → result
+        ≡ not (is_strictly_broken_then all_sets 12 p m.now) }
 {
     if begins_no_line(m) {
         return true;

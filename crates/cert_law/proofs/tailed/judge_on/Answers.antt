@@ -1,59 +1,25 @@
-use Rattle.std.proofs.Common.{List, Some, subst}
+use Rattle.std.proofs.Common.{refl}
+use Rattle.std.proofs.lemmas.Bool.{OnTrue_at}
 use Rattle.cert_law.specs.Cases.{matter_of}
 use Rattle.cert_law.specs.Known.{tailed_of}
-use Rattle.cert_law.proofs.KnownLemmas.{found_kept, step_kept, step_place, step_room, step_within}
-use Rattle.fux_grid.specs.declared.cell.Cell.{Cell}
-use Rattle.fux_judge.specs.Told.{TellsLines}
+use Rattle.cert_law.proofs.KnownLemmas.{found_kept, step_kept}
 use Rattle.cert_law.proofs.tailed.judge_on.Goals as goal
 
-pub column-column-requires-clause-place : goal.column-column-requires-clause-place
-column-column-requires-clause-place g c =
+pub judge_with-requires-clause-step : goal.judge_with-requires-clause-step
+judge_with-requires-clause-step g c =
     let basis = g.T.Tails.basis c.args.tails.now in
-    step_place (tailed_of (matter_of c.args.case.now) basis) basis c.args.known.now c.args.number c.requires.case
-    c.requires.tails c.requires.step
+    step_kept (tailed_of (matter_of c.args.case.now) basis) c.args.known.now c.is_voice_told.new.known c.args.number
+    c.is_voice_told.ensures.kept c.requires.step
 
-pub column-column-requires-clause-within : goal.column-column-requires-clause-within
-column-column-requires-clause-within g c =
-    let basis = g.T.Tails.basis c.args.tails.now in
-    step_within (tailed_of (matter_of c.args.case.now) basis) basis c.args.known.now c.args.number c.requires.case
-    c.requires.tails c.requires.step
-
-pub ask_voices-lines-requires : goal.ask_voices-lines-requires
-ask_voices-lines-requires g c =
-    let basis = g.T.Tails.basis c.args.tails.now in
-    record {
-      valid = c.requires.case.valid;
-      room = step_room (tailed_of (matter_of c.args.case.now) basis) basis c.args.known.now c.args.number
-          c.requires.case c.requires.tails c.requires.step;
-      voices = c.requires.step.is_open.is_of.voices;
-    }
-
-pub judge_with-requires-2-clause-step : goal.judge_with-requires-2-clause-step
-judge_with-requires-2-clause-step g c =
-    let basis = g.T.Tails.basis c.args.tails.now in
-    step_kept (tailed_of (matter_of c.args.case.now) basis) c.args.known.now
-    (record c.args.known.now { voices = c.ask_voices-lines.new.voices }) c.args.number
-    (λ p is. record { judged = is.judged; tail = is.tail; voices = c.ask_voices-lines.ensures.voices })
-    c.requires.step
-
-pub judge_with-requires-2-clause-lines : goal.judge_with-requires-2-clause-lines
-judge_with-requires-2-clause-lines g c =
-    subst (λ (d : List Cell). TellsLines c.args.case.now.exercise.now c.args.known.now.judged.state d
-    (Some c.ask_voices-lines.result)) c.column-column.ensures c.ask_voices-lines.ensures.lines
+pub returns-then-is_voice_told-clause-told : goal.returns-then-is_voice_told-clause-told
+returns-then-is_voice_told-clause-told g c = λ p is at.
+    (λ _. OnTrue_at c.if-is_voice_told.true c.is_voice_told.ensures.told p is at, λ _. refl)
 
 pub returns-clause-told : goal.returns-clause-told
-returns-clause-told g c = λ p is at.
-    c.judge_with-2.ensures.told p
-    record { judged = is.judged; tail = is.tail; voices = c.ask_voices-lines.ensures.voices } at
-
-pub returns-clause-kept : goal.returns-clause-kept
-returns-clause-kept g c = λ p is.
-    record { judged = is.judged; tail = is.tail; voices = c.ask_voices-lines.ensures.voices }
+returns-clause-told g c = λ p is at. c.judge_with.ensures.told p (c.is_voice_told.ensures.kept p is) at
 
 pub returns-clause-found : goal.returns-clause-found
 returns-clause-found g c =
     let basis = g.T.Tails.basis c.args.tails.now in
-    found_kept (tailed_of (matter_of c.args.case.now) basis) c.args.known.now
-    (record c.args.known.now { voices = c.ask_voices-lines.new.voices }) c.args.number c.judge_with-2.new.found
-    (λ p is. record { judged = is.judged; tail = is.tail; voices = c.ask_voices-lines.ensures.voices })
-    c.judge_with-2.ensures.found
+    found_kept (tailed_of (matter_of c.args.case.now) basis) c.args.known.now c.is_voice_told.new.known c.args.number
+    c.judge_with.new.found c.is_voice_told.ensures.kept c.judge_with.ensures.found

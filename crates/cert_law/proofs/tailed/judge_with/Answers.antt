@@ -9,7 +9,6 @@ use Rattle.cert_text.specs.declared.claim.Claim.{Claim}
 use Rattle.fux_grid.specs.declared.cell.Cell.{Cell}
 use Rattle.fux_grid.specs.declared.exercise.Exercise.{Exercise}
 use Rattle.fux_grid.specs.Menus.{menu_of}
-use Rattle.fux_judge.specs.Told.{TellsLines}
 use Rattle.rule_law.specs.Prefixes.{GoesOn}
 use Rattle.cert_law.proofs.tailed.judge_with.Goals as goal
 
@@ -45,11 +44,6 @@ is_break_told-requires-clause-alone g c =
     subst (λ (col : List Cell). IsAlone c.args.case.now.exercise.now i col alone) (sym c.column-column.ensures)
     (subst (λ (ex : Exercise). IsAlone ex i (slice_index_or (menu_of basis.exercise i) c.args.number []) alone)
     c.requires.tails.exercise c.alone-alone.ensures)
-
-pub is_break_told-requires-clause-lines : goal.is_break_told-requires-clause-lines
-is_break_told-requires-clause-lines g c =
-    subst (λ (col : List Cell). TellsLines c.args.case.now.exercise.now c.args.known.now.judged.state col c.args.lines)
-    (sym c.column-column.ensures) c.requires.lines
 
 pub is_break_told-requires-clause-room : goal.is_break_told-requires-clause-room
 is_break_told-requires-clause-room g c =

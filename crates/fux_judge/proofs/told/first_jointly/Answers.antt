@@ -1,14 +1,12 @@
-use Rattle.std.proofs.Common.{◌≡◌, ℕ, Option, refl, ap, sym, ◌∙◌, subst, arith}
+use Rattle.std.proofs.Common.{◌≡◌, ℕ, Option, ap, sym, ◌∙◌, subst, arith}
+use Rattle.std.proofs.lemmas.Bool.{not-false, not-true}
 use Rattle.std.specs.List.{find}
 use Rattle.std.specs.Prelude.{IfSome, Some}
 use Rattle.fux_judge.specs.Moments.{is_strictly_broken_then}
 use Rattle.fux_judge.specs.Rules.{all_sets}
 use Rattle.fux_judge.specs.Told.{least_alone}
-use Rattle.fux_judge.proofs.ToldLemmas.{early_joint, late_joint, third_joint, told_at_once}
+use Rattle.fux_judge.proofs.ToldLemmas.{early_joint, late_joint, third_joint}
 use Rattle.fux_judge.proofs.told.first_jointly.Goals as goal
-
-pub is_strictly_broken_now-requires-clause-rule : goal.is_strictly_broken_now-requires-clause-rule
-is_strictly_broken_now-requires-clause-rule c = told_at_once 12 refl
 
 pub returns-in_default : goal.returns-in_default
 returns-in_default c = λ p after.
@@ -22,18 +20,18 @@ returns-then-rule-lt12 c = λ p after.
     ≡ Some r)) c.in-Some.is c.requires.alone in
     sym (early_joint p m after c.in-Some.rule e (omega (arith, c.if-rule-lt12.true)))
 
-pub returns-then-is_strictly_broken_now : goal.returns-then-is_strictly_broken_now
-returns-then-is_strictly_broken_now c = λ p after.
+pub returns-then-opens_well : goal.returns-then-opens_well
+returns-then-opens_well c = λ p after.
     let m = c.args.m.now in
     let e = subst (λ (o : Option ℕ). IfSome o (λ r. least_alone m.exercise.now m.state.now.newest.len m.column.now
     ≡ Some r)) c.in-Some.is c.requires.alone in
-    sym (third_joint p m after c.in-Some.rule e (omega (arith, c.if-rule-lt12.false))
-    (sym (c.is_strictly_broken_now.ensures p after) ∙ c.if-is_strictly_broken_now.true))
+    sym (late_joint p m after c.in-Some.rule e (omega (arith, c.if-rule-lt12.false))
+    (not-true _ (sym (c.opens_well.ensures p after) ∙ c.if-opens_well.true)))
 
 pub returns : goal.returns
 returns c = λ p after.
     let m = c.args.m.now in
     let e = subst (λ (o : Option ℕ). IfSome o (λ r. least_alone m.exercise.now m.state.now.newest.len m.column.now
     ≡ Some r)) c.in-Some.is c.requires.alone in
-    sym (late_joint p m after c.in-Some.rule e (omega (arith, c.if-rule-lt12.false))
-    (sym (c.is_strictly_broken_now.ensures p after) ∙ c.if-is_strictly_broken_now.false))
+    sym (third_joint p m after c.in-Some.rule e (omega (arith, c.if-rule-lt12.false))
+    (not-false _ (sym (c.opens_well.ensures p after) ∙ c.if-opens_well.false)))

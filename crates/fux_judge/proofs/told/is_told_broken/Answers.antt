@@ -1,8 +1,7 @@
 use Rattle.std.proofs.Common.{◌≡◌, ℕ, Option, ap, sym, ◌∙◌, subst, arith}
 use Rattle.std.specs.Prelude.{IfSome, Some}
-use Rattle.std.proofs.lemmas.Bool.{OnTrue_at}
 use Rattle.fux_judge.specs.Told.{least_alone}
-use Rattle.fux_judge.proofs.ToldLemmas.{alone_newly, among_newly}
+use Rattle.fux_judge.proofs.ToldLemmas.{alone_newly}
 use Rattle.fux_judge.proofs.told.is_told_broken.Goals as goal
 
 pub returns-then-least-rule : goal.returns-then-least-rule
@@ -14,8 +13,3 @@ returns-then-least-rule c = λ p st on.
     let same : c.in-Some.least ≡ c.args.rule = omega (arith, c.if-least-rule.true) in
     alone_newly ex p col c.args.rule
     (ap (λ n. least_alone ex n col) (sym st.newest.count) ∙ given ∙ ap Some same)
-
-pub returns-then-is_among : goal.returns-then-is_among
-returns-then-is_among c = λ p st on.
-    among_newly c.args.ex.now c.args.state.now p c.args.col.now.items c.args.lines c.args.rule
-    (OnTrue_at c.if-is_among.true c.is_among.ensures) c.requires.lines st
