@@ -21,7 +21,7 @@ use Rattle.fux_judge.specs.Links.{breaks_strictly}
 use Rattle.fux_judge.specs.Moments.{IsAfter, breaks_one_of, is_strictly_broken_then}
 use Rattle.fux_judge.specs.Pruning.{IsFairVoice, IsToldAt, move_unfairly}
 use Rattle.fux_judge.specs.Rules.{all_sets, is_of_melody, rules_at_once}
-use Rattle.fux_judge.proofs.AlwaysLemmas.{clashed, crossed, ended_apart, ended_off, met}
+use Rattle.fux_judge.proofs.AlwaysLemmas.{sounds_alone}
 use Rattle.fux_judge.proofs.FairLemmas.{none_unfair}
 use Rattle.fux_judge.proofs.KeptLemmas.{at_once, kept_by_all, left_out, melody_kept, menu_kept, of_three, of_two}
 use Rattle.fux_judge.proofs.MomentLemmas.{motion_then, rhythm_then}
@@ -88,11 +88,11 @@ module _ (p : List (List Cell)) (m : Moment) (after : IsAfter p m) where
       let d = or_parts (alone 14) _ c.1 in
       let e = or_parts (alone 24) false d.1 in
       record {
-        uncrossed = crossed m.exercise.now p m.column.now ∙ moved 10 a.0;
-        unmet = met m.exercise.now p m.column.now ∙ moved 11 b.0;
-        fitting = ended_apart m.exercise.now p m.column.now ∙ moved 13 c.0;
-        unclashed = clashed m.exercise.now p m.column.now ∙ moved 14 d.0;
-        final = ended_off m.exercise.now p m.column.now ∙ moved 24 e.0;
+        uncrossed = sounds_alone m.exercise.now p m.column.now 10 refl ∙ moved 10 a.0;
+        unmet = sounds_alone m.exercise.now p m.column.now 11 refl ∙ moved 11 b.0;
+        fitting = sounds_alone m.exercise.now p m.column.now 13 refl ∙ moved 13 c.0;
+        unclashed = sounds_alone m.exercise.now p m.column.now 14 refl ∙ moved 14 d.0;
+        final = sounds_alone m.exercise.now p m.column.now 24 refl ∙ moved 24 e.0;
       }
 
   -- a fair one S16 and S17

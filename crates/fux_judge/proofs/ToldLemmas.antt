@@ -5,7 +5,7 @@ use Rattle.std.specs.Prelude.{Option, Some, None, cond, not}
 use Rattle.std.specs.List.{find, list_all, list_any}
 use Rattle.std.proofs.Math.Seq.{get_or-append_seam}
 use Rattle.std.specs.Option.{option_or}
-use Rattle.std.proofs.lemmas.Bool.{and_from, eqb-true, not-true}
+use Rattle.std.proofs.lemmas.Bool.{and_from, eq-eqb, eqb-true, not-true, or_right}
 use Rattle.std.proofs.lemmas.List.{length-append}
 use Rattle.std.proofs.lemmas.List.Folds.{find-append}
 use Rattle.fux_grid.specs.declared.cell.Cell.{Cell}
@@ -15,14 +15,16 @@ use Rattle.rule_law.specs.Law.{first_true, reading-at_end, second_true}
 use Rattle.rule_law.specs.Nearby.{previous_pitches}
 use Rattle.rule_law.specs.Prefixes.{GoesOn}
 use Rattle.fux_judge.specs.declared.moment.Moment.{Moment}
+use Rattle.fux_judge.specs.Always.{sounding_rules}
 use Rattle.fux_judge.specs.Links.{breaks_strictly}
 use Rattle.fux_judge.specs.Moments.{IsAfter, is_strictly_broken_then}
 use Rattle.fux_judge.specs.Penalties.{is_strict_at, newly_broken}
 use Rattle.fux_judge.specs.Rules.{all_sets, breaks, is_broken, is_late, is_read, late_rules, rule_at, rules_at_once, rules_read}
-use Rattle.fux_judge.specs.Told.{joint_rules, least_alone, least_newly_broken, voice_rules}
-use Rattle.fux_judge.proofs.AlwaysLemmas.{breaks_here, clashed, crossed, ended_apart, met}
+use Rattle.fux_judge.specs.Told.{alone_rules, joint_rules, least_alone, least_newly_broken, voice_rules}
+use Rattle.fux_judge.proofs.AlwaysLemmas.{sounds_alone}
 use Rattle.fux_judge.proofs.MenuBreaks.{keeps_gamut, keeps_ranges}
 use Rattle.fux_judge.proofs.Parts.{list_all-kept}
+use Rattle.fux_judge.proofs.PruningLemmas.{one_of}
 use Rattle.fux_judge.proofs.StepPlaces.{newly_broken-at_once}
 
 -- ---- the first of a list
@@ -39,6 +41,22 @@ find_where test f g (x ∷ xs) h e =
 pub none_found : (f : ℕ → Bool) (xs : List ℕ) → ((x : ℕ) → f x ≡ false) → find f xs ≡ None
 none_found f [] none = refl
 none_found f (x ∷ xs) none = ap (λ b. cond b (Some x) (find f xs)) (none x) ∙ none_found f xs none
+
+-- what is found of a list is an item of it that passes
+pub found_passes : (f : ℕ → Bool) (xs : List ℕ) (y : ℕ) → find f xs ≡ Some y
+    → (list_any (λ z. y == z) xs ≡ true) × (f y ≡ true)
+found_passes f [] y e = cc
+found_passes f (x ∷ xs) y e = at (f x) refl e (found_passes f xs y)
+  where
+    at : (b : Bool) → f x ≡ b → cond b (Some x) (find f xs) ≡ Some y
+        → (find f xs ≡ Some y → (list_any (λ z. y == z) xs ≡ true) × (f y ≡ true))
+        → (((y == x) || list_any (λ z. y == z) xs) ≡ true) × (f y ≡ true)
+    at true h k later =
+        let same : x ≡ y = cc in
+        (ap (λ b. b || list_any (λ z. y == z) xs) (eq-eqb y x (sym same)), sym (ap f same) ∙ h)
+    at false h k later =
+        let found = later k in
+        (or_right (y == x) (list_any (λ z. y == z) xs) found.0, found.1)
 
 -- ---- the rules
 
@@ -77,16 +95,9 @@ both_soon = refl
 range_at_once : (rule : ℕ) → list_any (λ y. y == rule) (1 ∷ 2 ∷ []) ≡ true → is_late rule ≡ false
 range_at_once rule h = not-true (is_late rule) (one_among (λ r. not (is_late r)) rule (1 ∷ 2 ∷ []) both_soon h)
 
-joint_read : list_all is_read joint_rules ≡ true
-unfolding rules_read
-joint_read = refl
-
--- each of several is settled at once, and read
+-- each of several is settled at once
 pub told_at_once : (rule : ℕ) → list_any (λ y. y == rule) joint_rules ≡ true → is_late rule ≡ false
 told_at_once rule h = not-true (is_late rule) (one_among (λ r. not (is_late r)) rule joint_rules joint_soon h)
-
-told_is_read : (rule : ℕ) → list_any (λ y. y == rule) joint_rules ≡ true → is_read rule ≡ true
-told_is_read rule h = one_among is_read rule joint_rules joint_read h
 
 -- each rule that is read is late, or settled at once
 all_at_once : list_all (λ rule. not (is_late rule)) rules_at_once ≡ true
@@ -222,40 +233,14 @@ module _ (p : List (List Cell)) (m : Moment) (after : IsAfter p m) where
   abbrev alone : ℕ → Bool
   alone rule = breaks_strictly m.exercise.now m.state.now.newest.len None m.column.now rule
 
-  -- what a column decides by itself is read at the moment
-  crossed_alone : is_strictly_broken_then all_sets 10 p m
-      ≡ breaks_strictly m.exercise.now m.state.now.newest.len None m.column.now 10
-  crossed_alone =
-      crossed m.exercise.now p m.column.now
-      ∙ ap (λ n. breaks_strictly m.exercise.now n None m.column.now 10) (sym after.state.newest.count)
-
-  met_alone : is_strictly_broken_then all_sets 11 p m
-      ≡ breaks_strictly m.exercise.now m.state.now.newest.len None m.column.now 11
-  met_alone =
-      met m.exercise.now p m.column.now
-      ∙ ap (λ n. breaks_strictly m.exercise.now n None m.column.now 11) (sym after.state.newest.count)
-
-  ended_alone : is_strictly_broken_then all_sets 13 p m
-      ≡ breaks_strictly m.exercise.now m.state.now.newest.len None m.column.now 13
-  ended_alone =
-      ended_apart m.exercise.now p m.column.now
-      ∙ ap (λ n. breaks_strictly m.exercise.now n None m.column.now 13) (sym after.state.newest.count)
-
-  clashed_alone : is_strictly_broken_then all_sets 14 p m
-      ≡ breaks_strictly m.exercise.now m.state.now.newest.len None m.column.now 14
-  clashed_alone =
-      clashed m.exercise.now p m.column.now
-      ∙ ap (λ n. breaks_strictly m.exercise.now n None m.column.now 14) (sym after.state.newest.count)
-
   -- what is found of those that a column decides by itself is found at the moment
   found_alone : (rule : ℕ) → least_alone m.exercise.now m.state.now.newest.len m.column.now ≡ Some rule
       → first_of_four (test 10) (test 11) (test 13) (test 14) ≡ Some rule
   unfolding least_alone
   found_alone rule e =
-      ap (λ a. first_of_four a (test 11) (test 13) (test 14)) crossed_alone
-      ∙ ap (λ b. first_of_four (alone 10) b (test 13) (test 14)) met_alone
-      ∙ ap (λ c. first_of_four (alone 10) (alone 11) c (test 14)) ended_alone
-      ∙ ap (λ d. first_of_four (alone 10) (alone 11) (alone 13) d) clashed_alone
+      find_where (λ r. list_any (λ y. r == y) sounding_rules) test alone alone_rules refl
+      (λ r h. sounds_alone m.exercise.now p m.column.now r h
+      ∙ ap (λ n. breaks_strictly m.exercise.now n None m.column.now r) (sym after.state.newest.count))
       ∙ e
 
   module _ (rule : ℕ) (e : least_alone m.exercise.now m.state.now.newest.len m.column.now ≡ Some rule) where
@@ -273,29 +258,21 @@ module _ (p : List (List Cell)) (m : Moment) (after : IsAfter p m) where
     late_joint high t =
         late_first (test 10) (test 11) (test 12) (test 13) (test 14) rule (found_alone rule e) high t
 
--- what holds of each of the four where it is the one that is found holds of the one that is found
-of_found : (P : ℕ → Type 0) (a b c d : Bool) (rule : ℕ) → first_of_four a b c d ≡ Some rule → (a ≡ true → P 10)
-    → (b ≡ true → P 11) → (c ≡ true → P 13) → (d ≡ true → P 14) → P rule
-of_found P true b c d rule e pa pb pc pd = let n : 10 ≡ rule = cc in subst P n (pa refl)
-of_found P false true c d rule e pa pb pc pd = let n : 11 ≡ rule = cc in subst P n (pb refl)
-of_found P false false true d rule e pa pb pc pd = let n : 13 ≡ rule = cc in subst P n (pc refl)
-of_found P false false false true rule e pa pb pc pd = let n : 14 ≡ rule = cc in subst P n (pd refl)
-of_found P false false false false rule e pa pb pc pd = cc
+alone_read : list_all is_read alone_rules ≡ true
+unfolding rules_read
+alone_read = refl
+
+alone_soon : list_all (λ rule. not (is_late rule)) alone_rules ≡ true
+unfolding rule_at
+alone_soon = refl
 
 -- of the least rule that a column breaks by itself it settles a strict break after each prefix
 pub alone_newly : (ex : Exercise) (p : List (List Cell)) (col : List Cell) (rule : ℕ)
     → least_alone ex (length p) col ≡ Some rule → (is_read rule && newly_broken ex p col rule) ≡ true
 unfolding least_alone
 alone_newly ex p col rule e =
-    let alone : ℕ → Bool = breaks_strictly ex (length p) None col in
-    of_found (λ r. (is_read r && newly_broken ex p col r) ≡ true) (alone 10) (alone 11) (alone 13) (alone 14) rule e
-    (λ h. settled 10 refl (crossed ex p col ∙ h))
-    (λ h. settled 11 refl (met ex p col ∙ h))
-    (λ h. settled 13 refl (ended_apart ex p col ∙ h))
-    (λ h. settled 14 refl (clashed ex p col ∙ h))
-  where
-    settled : (r : ℕ) → list_any (λ y. y == r) joint_rules ≡ true → breaks_here ex p col r ≡ true
-        → (is_read r && newly_broken ex p col r) ≡ true
-    settled r among h =
-        and_from (is_read r) (newly_broken ex p col r) (told_is_read r among)
-        (newly_broken-at_once ex p col r (told_at_once r among) ∙ h)
+    let found = found_passes (breaks_strictly ex (length p) None col) alone_rules rule e in
+    let soon = not-true (is_late rule) (one_of (λ r. not (is_late r)) rule alone_rules alone_soon found.0) in
+    let sounds = one_of (λ r. list_any (λ y. r == y) sounding_rules) rule alone_rules refl found.0 in
+    and_from (is_read rule) (newly_broken ex p col rule) (one_of is_read rule alone_rules alone_read found.0)
+    (newly_broken-at_once ex p col rule soon ∙ sounds_alone ex p col rule sounds ∙ found.1)

@@ -1,9 +1,9 @@
 -- The least of S3 to S9 that a column breaks is the least that some voice of it breaks by its cell
 -- (`found_together`).
 use Rattle.std.proofs.Common.{◌≡◌, ℕ, ◌+◌, ◌*◌, ◌/◌, ◌==◌, ◌&&◌, ◌||◌, Bool, true, false, List, [], ◌∷◌, length, refl, ap, sym, ◌∙◌, arith}
-use Rattle.std.specs.Prelude.{Some, cond, if◌then◌else◌}
+use Rattle.std.specs.Prelude.{Some, if◌then◌else◌}
 use Rattle.std.specs.List.{find, list_all, list_any}
-use Rattle.std.proofs.lemmas.Bool.{and_from, eq-eqb, eqb-true, or_right}
+use Rattle.std.proofs.lemmas.Bool.{and_from, eqb-true}
 use Rattle.fux_grid.specs.declared.cell.Cell.{Cell}
 use Rattle.fux_grid.specs.declared.exercise.Exercise.{Exercise}
 use Rattle.fux_grid.specs.Cells.{cell_in}
@@ -23,7 +23,7 @@ use Rattle.fux_judge.specs.Told.{breaks_by_cell, breaks_line, is_of_line, is_of_
 use Rattle.fux_judge.proofs.LineBreaks.{lines_together}
 use Rattle.fux_judge.proofs.PruningLemmas.{one_of, some_of}
 use Rattle.fux_judge.proofs.StepPlaces.{newly_broken-late}
-use Rattle.fux_judge.proofs.ToldLemmas.{find_where}
+use Rattle.fux_judge.proofs.ToldLemmas.{find_where, found_passes}
 
 with_true : (b : Bool) → (b && true) ≡ b
 with_true true = refl
@@ -31,22 +31,6 @@ with_true false = refl
 
 any_of_one : (test : ℕ → Bool) → any_below test 1 ≡ test 0
 any_of_one test = refl
-
--- what is found of a list is an item of it that passes
-found_passes : (f : ℕ → Bool) (xs : List ℕ) (y : ℕ) → find f xs ≡ Some y
-    → (list_any (λ z. y == z) xs ≡ true) × (f y ≡ true)
-found_passes f [] y e = cc
-found_passes f (x ∷ xs) y e = at (f x) refl e (found_passes f xs y)
-  where
-    at : (b : Bool) → f x ≡ b → cond b (Some x) (find f xs) ≡ Some y
-        → (find f xs ≡ Some y → (list_any (λ z. y == z) xs ≡ true) × (f y ≡ true))
-        → (((y == x) || list_any (λ z. y == z) xs) ≡ true) × (f y ≡ true)
-    at true h k later =
-        let same : x ≡ y = cc in
-        (ap (λ b. b || list_any (λ z. y == z) xs) (eq-eqb y x (sym same)), sym (ap f same) ∙ h)
-    at false h k later =
-        let found = later k in
-        (or_right (y == x) (list_any (λ z. y == z) xs) found.0, found.1)
 
 -- S3 has one place, the beginning of the column's bar
 third_among : (n place : ℕ) → place ≡ 8 * (n / 8) → IsAmong (8 * (n / 8)) 1 place
