@@ -36,6 +36,7 @@ pub fn told_break(
 ) -> Option<u8>
     requires case { IsCase (matter_of case.now) }
     requires room { judged.now.state.newest.len < columns_in case.now.exercise.now }
+    requires full { length column.now.items ≡ case.now.exercise.now.voices }
     requires alone { IsAlone case.now.exercise.now judged.now.state.newest.len column.now.items
         alone }
     requires line { TellsLine case.now.exercise.now judged.now.state column.now.items line }

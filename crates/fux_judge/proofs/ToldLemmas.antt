@@ -20,7 +20,7 @@ use Rattle.fux_judge.specs.Links.{breaks_strictly}
 use Rattle.fux_judge.specs.Moments.{IsAfter, is_strictly_broken_then}
 use Rattle.fux_judge.specs.Penalties.{is_strict_at, newly_broken}
 use Rattle.fux_judge.specs.Rules.{all_sets, breaks, is_broken, is_late, is_read, late_rules, rule_at, rules_at_once, rules_read}
-use Rattle.fux_judge.specs.Told.{alone_rules, joint_rules, least_alone, least_newly_broken, voice_rules}
+use Rattle.fux_judge.specs.Told.{alone_rules, joint_rules, least_alone, least_newly_broken, next_rules, voice_rules}
 use Rattle.fux_judge.proofs.AlwaysLemmas.{sounds_alone}
 use Rattle.fux_judge.proofs.MenuBreaks.{keeps_gamut, keeps_ranges}
 use Rattle.fux_judge.proofs.Parts.{list_all-kept}
@@ -61,22 +61,34 @@ found_passes f (x ∷ xs) y e = at (f x) refl e (found_passes f xs y)
 -- ---- the rules
 
 later_rules : List ℕ
-later_rules = drop 14 rules_read
+later_rules = drop 17 rules_read
 
 joint_soon : list_all (λ rule. not (is_late rule)) joint_rules ≡ true
 unfolding rule_at
 joint_soon = refl
 
+-- those from S10 to S17
+abbrev behind_voices : List ℕ
+behind_voices = joint_rules ++ next_rules
+
 -- what is found of all rules, where S1 and S2 aren't broken, is found of those of one voice, or else
--- of those of several, or else of the others
+-- of those up to S17, or else of the others
 found_in_all : (f : ℕ → Bool) → f 1 ≡ false → f 2 ≡ false
-    → find f rules_read ≡ option_or (find f voice_rules) (option_or (find f joint_rules) (find f later_rules))
+    → find f rules_read ≡ option_or (find f voice_rules) (option_or (find f behind_voices) (find f later_rules))
 unfolding rules_read later_rules
 found_in_all f first second =
-    ap (λ b. cond b (Some 1) (cond (f 2) (Some 2) (find f (voice_rules ++ (joint_rules ++ later_rules))))) first
-    ∙ ap (λ b. cond b (Some 2) (find f (voice_rules ++ (joint_rules ++ later_rules)))) second
-    ∙ find-append f voice_rules (joint_rules ++ later_rules)
-    ∙ ap (option_or (find f voice_rules)) (find-append f joint_rules later_rules)
+    ap (λ b. cond b (Some 1) (cond (f 2) (Some 2) (find f (voice_rules ++ (behind_voices ++ later_rules))))) first
+    ∙ ap (λ b. cond b (Some 2) (find f (voice_rules ++ (behind_voices ++ later_rules)))) second
+    ∙ find-append f voice_rules (behind_voices ++ later_rules)
+    ∙ ap (option_or (find f voice_rules)) (find-append f behind_voices later_rules)
+
+pub fifteenth_is_late : is_late 15 ≡ true
+unfolding rule_at
+fifteenth_is_late = refl
+
+moving_soon : list_all (λ rule. not (is_late rule)) (16 ∷ 17 ∷ []) ≡ true
+unfolding rule_at
+moving_soon = refl
 
 one_among : (test : ℕ → Bool) (x : ℕ) (xs : List ℕ) → list_all test xs ≡ true → list_any (λ y. y == x) xs ≡ true
     → test x ≡ true
@@ -145,6 +157,26 @@ module _ (ex : Exercise) (p : List (List Cell)) (col : List Cell) (m : Moment) (
       find_where (λ r. not (is_late r)) (λ r. is_strictly_broken_then all_sets r p m) (newly_broken ex p col)
       joint_rules joint_soon (λ r h. strictly_newly r (not-true (is_late r) h))
 
+  pub moving_newly : find (λ r. is_strictly_broken_then all_sets r p m) (16 ∷ 17 ∷ [])
+      ≡ find (newly_broken ex p col) (16 ∷ 17 ∷ [])
+  moving_newly =
+      find_where (λ r. not (is_late r)) (λ r. is_strictly_broken_then all_sets r p m) (newly_broken ex p col)
+      (16 ∷ 17 ∷ []) moving_soon (λ r h. strictly_newly r (not-true (is_late r) h))
+
+-- the first of those from S10 to S17 is the first of S10 to S14, or else of the others
+module _ (ex : Exercise) (p : List (List Cell)) (col : List Cell) (rule : ℕ) where
+  pub first_joint : Some rule ≡ find (newly_broken ex p col) joint_rules
+      → Some rule ≡ find (newly_broken ex p col) (joint_rules ++ next_rules)
+  first_joint e =
+      sym (find-append (newly_broken ex p col) joint_rules next_rules
+      ∙ ap (λ o. option_or o (find (newly_broken ex p col) next_rules)) (sym e))
+
+  pub next_joint : None ≡ find (newly_broken ex p col) joint_rules → Some rule ≡ find (newly_broken ex p col) next_rules
+      → Some rule ≡ find (newly_broken ex p col) (joint_rules ++ next_rules)
+  next_joint none e =
+      sym (find-append (newly_broken ex p col) joint_rules next_rules
+      ∙ ap (λ o. option_or o (find (newly_broken ex p col) next_rules)) (sym none) ∙ sym e)
+
 -- no set passes two tests of which it never passes the first
 none_of_both : (test other : ℕ → Bool) (sets : List ℕ) → ((voices : ℕ) → test voices ≡ false)
     → list_any (λ voices. test voices && other voices) sets ≡ false
@@ -184,14 +216,14 @@ module _ (ex : Exercise) (p : List (List Cell)) (col : List Cell) (on : GoesOn e
     pub voice_is_least : Some rule ≡ find (newly_broken ex p col) voice_rules → least_newly_broken ex p col ≡ Some rule
     voice_is_least e =
         found_in_all (newly_broken ex p col) first_kept second_kept
-        ∙ ap (λ o. option_or o (option_or (find (newly_broken ex p col) joint_rules) (find (newly_broken ex p col) later_rules)))
+        ∙ ap (λ o. option_or o (option_or (find (newly_broken ex p col) behind_voices) (find (newly_broken ex p col) later_rules)))
         (sym e)
 
     pub joint_is_least : None ≡ find (newly_broken ex p col) voice_rules
-        → Some rule ≡ find (newly_broken ex p col) joint_rules → least_newly_broken ex p col ≡ Some rule
+        → Some rule ≡ find (newly_broken ex p col) (joint_rules ++ next_rules) → least_newly_broken ex p col ≡ Some rule
     joint_is_least none e =
         found_in_all (newly_broken ex p col) first_kept second_kept
-        ∙ ap (λ o. option_or o (option_or (find (newly_broken ex p col) joint_rules) (find (newly_broken ex p col) later_rules)))
+        ∙ ap (λ o. option_or o (option_or (find (newly_broken ex p col) behind_voices) (find (newly_broken ex p col) later_rules)))
         (sym none)
         ∙ ap (λ o. option_or o (find (newly_broken ex p col) later_rules)) (sym e)
 

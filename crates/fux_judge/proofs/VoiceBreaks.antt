@@ -58,7 +58,7 @@ module _ (ex : Exercise) (p : List (List Cell)) (col : List Cell) (on : GoesOn e
       ap (λ b. b && is_strict_at 3 ex voices place)
       (newly_by_cells ex p col voices place on (third_among (length p) place refl))
 
-  -- S3 is never relaxed
+  -- so S3 is broken just where some voice has no shape left: it is never relaxed
   shapes_together : newly_broken ex p col 3
       ≡ list_any (λ v. leaves_by_cell ex v p (cell_in col v)) (0 ∷ 1 ∷ 2 ∷ 3 ∷ [])
   unfolding rule_at forms.all_sets

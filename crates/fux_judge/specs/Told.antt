@@ -33,6 +33,10 @@ is_of_line rule = list_any (λ other. rule == other) line_rules
 abbrev pub joint_rules : List ℕ
 joint_rules = 10 ∷ 11 ∷ 12 ∷ 13 ∷ 14 ∷ []
 
+-- those from S15 to S17
+abbrev pub next_rules : List ℕ
+next_rules = 15 ∷ 16 ∷ 17 ∷ []
+
 -- those of these that a column decides by itself
 abbrev pub alone_rules : List ℕ
 alone_rules = 10 ∷ 11 ∷ 13 ∷ 14 ∷ []

@@ -1,6 +1,6 @@
 //! Rules that a column breaks, told without judging all of it.
 
-ghost use Rattle.std.specs.Prelude.{◌≡◌, ◌<◌, ◌&&◌, Some, true, not, nat_lt, IfSome, IsTrue, length};
+ghost use Rattle.std.specs.Prelude.{◌≡◌, ◌<◌, ◌&&◌, ◌∷◌, ◌++◌, [], Some, true, not, nat_lt, IfSome, IsTrue, length};
 ghost use Rattle.std.specs.Bool.{OnTrue};
 ghost use Rattle.std.specs.List.{find, list_all};
 ghost use Rattle.fux_grid.specs.Cells.{cell_in};
@@ -10,7 +10,7 @@ ghost use Rattle.fux_judge.specs.Moments.{IsAfter, IsReadable, is_strict_break_t
 ghost use Rattle.fux_judge.specs.Penalties.{newly_broken};
 ghost use Rattle.fux_judge.specs.Rules.{all_sets, is_late, is_read};
 ghost use Rattle.fux_judge.specs.States.{IsStateOf};
-ghost use Rattle.fux_judge.specs.Told.{TellsLine, joint_rules, least_alone, least_by_cell, least_newly_broken, line_rules};
+ghost use Rattle.fux_judge.specs.Told.{TellsLine, joint_rules, least_alone, least_by_cell, least_newly_broken, line_rules, next_rules};
 ghost use Rattle.fux_judge.specs.Verdicts.{GoingOn};
 
 use crate::kept::opens_well;
@@ -32,6 +32,9 @@ const LINE_RULES: [u8; 6] = [4, 5, 6, 7, 8, 9];
 /// Those from S10 to S14, which several voices break together.
 const JOINT_RULES: [u8; 5] = [10, 11, 12, 13, 14];
 
+/// S16 and S17, which voices break by moving together.
+const MOVING_RULES: [u8; 2] = [16, 17];
+
 /// Those of melody, as a list.
 #[tactic(auto, unfolding(crate::specs::Rules::rule_at))]
 fn told_of_lines() -> &'static [u8]
@@ -48,6 +51,15 @@ fn told_jointly() -> &'static [u8]
     ensures numbers { IsTrue (list_all (λ rule. nat_lt rule 32 && not (is_late rule)) result.now) }
 {
     &JOINT_RULES
+}
+
+/// Those of moves, as a list.
+#[tactic(auto, unfolding(crate::specs::Rules::rule_at))]
+fn told_of_moves() -> &'static [u8]
+    ensures value { result.now ≡ 16 ∷ 17 ∷ [] }
+    ensures numbers { IsTrue (list_all (λ rule. nat_lt rule 32 && not (is_late rule)) result.now) }
+{
+    &MOVING_RULES
 }
 
 /// The first of these rules that is strictly broken for a set of voices.
@@ -122,24 +134,44 @@ fn first_jointly(m: &Moment<'_>, alone: Option<u8>) -> Option<u8>
     Some(12)
 }
 
-/// The least of S10 to S14 of which a column settles a strict break, where it settles one.
+/// The least of S15 to S17 of which a column settles a strict break, where it settles one.
+fn next_rule(ex: &Exercise, state: &State, col: &Column) -> Option<u8>
+    requires valid { IsValid ex.now }
+    requires room { state.now.newest.len < columns_in ex.now }
+    requires full { length col.now.items ≡ ex.now.voices }
+    ensures { IfSome result (λ rule. GoingOn ex.now state.now col.now.items (λ p added. Some rule
+        ≡ find (newly_broken ex.now p added) next_rules)) }
+{
+    if breaks_late_rule(ex, state, col, 15) {
+        return Some(15);
+    }
+    let moment = moment_of(ex, state, col);
+    let rule = first_broken(told_of_moves(), &moment)?;
+    Some(rule)
+}
+
+/// The least of S10 to S17 of which a column settles a strict break, where it settles one. Where
+/// nothing begins in it, it isn't told.
 fn joint_rule(ex: &Exercise, state: &State, col: &Column, alone: Option<u8>) -> Option<u8>
     requires valid { IsValid ex.now }
     requires room { state.now.newest.len < columns_in ex.now }
+    requires full { length col.now.items ≡ ex.now.voices }
     requires alone { IfSome alone (λ rule. least_alone ex.now state.now.newest.len col.now.items
         ≡ Some rule) }
-    ensures { IfSome result (λ rule. (p : Columns) → IsStateOf ex.now p state.now
-        → Some rule ≡ find (newly_broken ex.now p col.now.items) joint_rules) }
+    ensures { IfSome result (λ rule. GoingOn ex.now state.now col.now.items (λ p added. Some rule
+        ≡ find (newly_broken ex.now p added) (joint_rules ++ next_rules))) }
 {
     if is_quiet(state.newest.len, col.as_slice()) {
         return None;
     }
     let moment = moment_of(ex, state, col);
-    let rule = first_jointly(&moment, alone)?;
-    Some(rule)
+    match first_jointly(&moment, alone) {
+        Some(rule) => Some(rule),
+        None => next_rule(ex, state, col),
+    }
 }
 
-/// The least rule of which a column settles a strict break, where it is one of S3 to S14: most
+/// The least rule of which a column settles a strict break, where it is one of S3 to S17: most
 /// columns that break a rule break one of these. None where it isn't told. The least of S3 to S9 is
 /// given, and the least one may be that the column breaks by itself: then no more than S12 is asked.
 pub fn told_rule(
@@ -151,6 +183,7 @@ pub fn told_rule(
 ) -> Option<u8>
     requires valid { IsValid ex.now }
     requires room { state.now.newest.len < columns_in ex.now }
+    requires full { length col.now.items ≡ ex.now.voices }
     requires alone { IfSome alone (λ rule. least_alone ex.now state.now.newest.len col.now.items
         ≡ Some rule) }
     requires line { TellsLine ex.now state.now col.now.items line }

@@ -1,9 +1,9 @@
-use Rattle.std.proofs.Common.{◌≡◌, ◌++◌, ◌∷◌, [], List, slice_index_or, ap, sym, ◌∙◌, subst}
+use Rattle.std.proofs.Common.{◌≡◌, ◌++◌, ◌∷◌, [], List, length, slice_index_or, ap, sym, ◌∙◌, subst}
 use Rattle.cert_law.specs.Alone.{IsAlone}
 use Rattle.cert_law.specs.Cases.{matter_of}
 use Rattle.cert_law.specs.Known.{column_after, own_in, tailed_of}
 use Rattle.cert_law.proofs.FirstLemmas.{first_rule}
-use Rattle.cert_law.proofs.KnownLemmas.{found_kept, step_column, step_goes_on, step_kept, step_place, step_room, step_within, voices_kept}
+use Rattle.cert_law.proofs.KnownLemmas.{found_kept, step_column, step_full, step_goes_on, step_kept, step_place, step_room, step_within, voices_kept}
 use Rattle.fux_grid.specs.declared.cell.Cell.{Cell}
 use Rattle.fux_grid.specs.declared.exercise.Exercise.{Exercise}
 use Rattle.fux_grid.specs.Menus.{menu_of}
@@ -58,6 +58,13 @@ told_break-requires-clause-alone g c =
     subst (λ (col : List Cell). IsAlone c.args.case.now.exercise.now i col alone) (sym c.column-column.ensures)
     (subst (λ (ex : Exercise). IsAlone ex i (slice_index_or (menu_of basis.exercise i) c.args.number []) alone)
     c.requires.tails.exercise c.alone-alone.ensures)
+
+pub told_break-requires-clause-full : goal.told_break-requires-clause-full
+told_break-requires-clause-full g c =
+    let basis = g.T.Tails.basis c.args.tails.now in
+    ap length c.column-column.ensures
+    ∙ step_full (tailed_of (matter_of c.args.case.now) basis) basis c.args.known.now c.args.number c.requires.case
+    c.requires.tails c.requires.step
 
 pub returns-in-Some-clause-own : goal.returns-in-Some-clause-own
 returns-in-Some-clause-own g c = λ p is at.

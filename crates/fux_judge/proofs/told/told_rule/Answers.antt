@@ -10,4 +10,5 @@ returns-in-Some c = λ p st on.
 pub returns-in-None : goal.returns-in-None
 returns-in-None c =
     IfSome_then c.joint_rule.result c.joint_rule.ensures (λ rule found p st on.
-    joint_is_least c.args.ex.now p c.args.col.now.items on rule (sym c.in-None.is ∙ c.requires.line p st on) (found p st))
+    joint_is_least c.args.ex.now p c.args.col.now.items on rule (sym c.in-None.is ∙ c.requires.line p st on)
+    (found p st on))
