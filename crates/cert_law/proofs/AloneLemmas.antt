@@ -1,7 +1,5 @@
--- What holds of each entry of a list holds with one more (`each_more`), and what is found of a column
--- is told of it (`alone_told`).
-use Rattle.std.proofs.Common.{◌≡◌, ℕ, ◌+◌, ◌<◌, List, [], ◌∷◌, ◌++◌, length, Option, Some, None, ⊎_elim, sym, subst, arith, slice_index_or}
-use Rattle.std.specs.Prelude.{IfSome}
+-- What holds of each entry of a list holds with one more (`each_more`).
+use Rattle.std.proofs.Common.{◌≡◌, ℕ, ◌+◌, ◌<◌, List, [], ◌∷◌, ◌++◌, length, ⊎_elim, sym, subst, arith, slice_index_or}
 use Rattle.std.proofs.Math.ListN.{get_or-append}
 use Rattle.std.proofs.lemmas.List.{get_or_push}
 use Rattle.std.proofs.lemmas.Bool.{cases_lt}
@@ -17,7 +15,3 @@ each_more P xs longer x d n long is before here k within =
     subst (P k) (sym (get_or_push xs x d k (omega (arith, long, same))))
     (subst (λ (j : ℕ). P j x) (sym same) here))
     (cases_lt k n))
-
-pub alone_told : (told least : Option ℕ) → told ≡ least → IfSome told (λ rule. least ≡ Some rule)
-alone_told None least e = tt
-alone_told (Some rule) least e = sym e

@@ -5,6 +5,7 @@ ghost use Rattle.cert_law.specs.Alone.{AreAlone, IsAlone, IsAloneRow};
 ghost use Rattle.fux_grid.specs.declared.exercise.Exercise.{Exercise as AnExercise};
 ghost use Rattle.fux_grid.specs.Exercises.{IsValid, columns_in};
 ghost use Rattle.fux_grid.specs.Menus.{menu_of};
+ghost use Rattle.fux_judge.specs.Told.{least_alone};
 
 use crate::tails::Tails;
 use floor_tables::Tables;
@@ -15,8 +16,8 @@ use rule_law::is_quiet;
 use std::alloc::Global;
 use std::marker::Model;
 
-/// The tables of an exercise, and for each column of its menus that may be broken by itself the
-/// least of the rules S10, S11, S13 and S14 that it breaks so.
+/// The tables of an exercise, and for each column of its menus the least of the rules S10, S11, S13
+/// and S14 that it breaks by itself.
 #[derive(Drop)]
 pub struct AloneTables<'a> {
     tables: &'a Tables<'a>,
@@ -39,7 +40,7 @@ impl<'a> Model for AloneTables<'a> {
 fn alone_of<'a>(ex: &'a Exercise<'a>, i: usize, column: &'a Column) -> Option<u8>
     requires valid { IsValid ex.now }
     requires place { i < columns_in ex.now }
-    ensures { IsAlone ex.now i column.now.items result }
+    ensures { result ≡ least_alone ex.now i column.now.items }
 {
     if is_quiet(i, column.as_slice()) {
         return None;
@@ -88,7 +89,7 @@ fn rows_of<'a>(
 }
 
 /// What is told of the column of a number at a place.
-fn told_in(rules: &[List<Option<u8>>], i: usize, k: usize) -> Option<u8>
+fn told_in(rules: &[List<Option<u8>>], i: usize, k: usize) -> Option<Option<u8>>
     ensures { (ex : AnExercise) → AreAlone ex rules.now
         → IsAlone ex i (slice_index_or (menu_of ex i) k []) result }
 {
@@ -99,7 +100,7 @@ fn told_in(rules: &[List<Option<u8>>], i: usize, k: usize) -> Option<u8>
     if k >= row.len() {
         return None;
     }
-    row[k]
+    Some(row[k])
 }
 
 impl<'a> AloneTables<'a> {
@@ -138,7 +139,7 @@ impl<'a> Tails for AloneTables<'a> {
         self.tables.column(i, k)
     }
 
-    fn alone(&self, i: usize, k: usize) -> Option<u8> {
+    fn alone(&self, i: usize, k: usize) -> Option<Option<u8>> {
         told_in(self.rules.as_slice(), i, k)
     }
 

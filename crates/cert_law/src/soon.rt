@@ -31,7 +31,7 @@ pub fn told_break(
     case: &Case<'_>,
     judged: &Judged,
     column: &Column,
-    alone: Option<u8>,
+    alone: Option<Option<u8>>,
     line: Option<u8>,
 ) -> Option<u8>
     requires case { IsCase (matter_of case.now) }
@@ -61,7 +61,7 @@ pub fn is_break_told(
     case: &Case<'_>,
     judged: &Judged,
     column: &Column,
-    alone: Option<u8>,
+    alone: Option<Option<u8>>,
     claim: Claim,
 ) -> bool
     requires case { IsCase (matter_of case.now) }

@@ -26,9 +26,9 @@ pub trait Tails {
         requires within { k < length (menu_of (basis self.now).exercise i) }
         ensures { result.now.items ≡ slice_index_or (menu_of (basis self.now).exercise i) k [] };
 
-    /// The least of the rules S10, S11, S13 and S14 that the column of a number breaks by itself,
-    /// where that was found before.
-    fn alone(&self, i: usize, k: usize) -> Option<u8>
+    /// The least of the rules S10, S11, S13 and S14 that the column of a number breaks by itself, or
+    /// that it breaks none, where that was found before.
+    fn alone(&self, i: usize, k: usize) -> Option<Option<u8>>
         requires place { i < columns_in (basis self.now).exercise }
         requires within { k < length (menu_of (basis self.now).exercise i) }
         ensures { IsAlone (basis self.now).exercise i

@@ -16,7 +16,7 @@ ghost use Rattle.fux_judge.specs.Told.{TellsLine, least_by_cell};
 ghost use Rattle.fux_judge.specs.Verdicts.{GoingOn};
 
 use fux_grid::{Cell, Column, Exercise, cell_of};
-use fux_judge::{State, line_break};
+use fux_judge::{State, is_rule, line_break};
 
 /// A cell of a voice, and the least of S3 to S9 that the voice breaks strictly with it.
 #[derive(Clone, Copy)]
@@ -109,17 +109,6 @@ pub(crate) fn ask_voices(
     let lower = lesser(first, second);
     let upper = lesser(third, fourth);
     lesser(lower, upper)
-}
-
-/// Whether a rule is the one that is told.
-#[inline(always)]
-fn is_rule(told: Option<u8>, rule: u8) -> bool
-    ensures { OnTrue result (told ≡ Some rule) }
-{
-    match told {
-        Some(least) => least == rule,
-        None => false,
-    }
 }
 
 /// Whether a voice was told of its cell in a column, and that a rule is the least that it breaks

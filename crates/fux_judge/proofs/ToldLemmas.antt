@@ -1,11 +1,11 @@
 -- The first rule of those that a voice breaks by its cells is the least of all (`voice_is_least`), and
 -- where there is none, the first of those of several voices (`joint_is_least`).
-use Rattle.std.proofs.Common.{◌≡◌, ℕ, ◌+◌, ◌<◌, ◌≤◌, ◌==◌, ◌&&◌, ◌||◌, Bool, true, false, List, [], ◌∷◌, ◌++◌, drop, length, reverse, slice_index_or, subst, refl, ap, sym, ◌∙◌, arith}
+use Rattle.std.proofs.Common.{◌≡◌, ℕ, ◌+◌, ◌<◌, ◌==◌, ◌&&◌, ◌||◌, Bool, true, false, List, [], ◌∷◌, ◌++◌, drop, length, reverse, slice_index_or, subst, refl, ap, sym, ◌∙◌, arith}
 use Rattle.std.specs.Prelude.{Option, Some, None, cond, not}
 use Rattle.std.specs.List.{find, list_all, list_any}
 use Rattle.std.proofs.Math.Seq.{get_or-append_seam}
 use Rattle.std.specs.Option.{option_or}
-use Rattle.std.proofs.lemmas.Bool.{and_from, eq-eqb, eqb-true, not-true, or_right}
+use Rattle.std.proofs.lemmas.Bool.{and_from, eq-eqb, eqb-true, not-true, or_parts, or_right}
 use Rattle.std.proofs.lemmas.List.{length-append}
 use Rattle.std.proofs.lemmas.List.Folds.{find-append}
 use Rattle.fux_grid.specs.declared.cell.Cell.{Cell}
@@ -20,7 +20,7 @@ use Rattle.fux_judge.specs.Links.{breaks_strictly}
 use Rattle.fux_judge.specs.Moments.{IsAfter, is_strictly_broken_then}
 use Rattle.fux_judge.specs.Penalties.{is_strict_at, newly_broken}
 use Rattle.fux_judge.specs.Rules.{all_sets, breaks, is_broken, is_late, is_read, late_rules, rule_at, rules_at_once, rules_read}
-use Rattle.fux_judge.specs.Told.{alone_rules, joint_rules, least_alone, least_newly_broken, next_rules, voice_rules}
+use Rattle.fux_judge.specs.Told.{alone_rules, is_early, joint_rules, least_alone, least_newly_broken, next_rules, voice_rules}
 use Rattle.fux_judge.proofs.AlwaysLemmas.{sounds_alone}
 use Rattle.fux_judge.proofs.MenuBreaks.{keeps_gamut, keeps_ranges}
 use Rattle.fux_judge.proofs.Parts.{list_all-kept}
@@ -57,6 +57,13 @@ found_passes f (x ∷ xs) y e = at (f x) refl e (found_passes f xs y)
     at false h k later =
         let found = later k in
         (or_right (y == x) (list_any (λ z. y == z) xs) found.0, found.1)
+
+-- nor where none passes
+pub nothing_found : (f : ℕ → Bool) (xs : List ℕ) → list_any f xs ≡ false → find f xs ≡ None
+nothing_found f [] h = refl
+nothing_found f (x ∷ xs) h =
+    let parts = or_parts (f x) (list_any f xs) h in
+    ap (λ b. cond b (Some x) (find f xs)) parts.0 ∙ nothing_found f xs parts.1
 
 -- ---- the rules
 
@@ -237,26 +244,25 @@ abbrev first_of_five : Bool → Bool → Bool → Bool → Bool → Option ℕ
 first_of_five a b s c d =
     cond a (Some 10) (cond b (Some 11) (cond s (Some 12) (cond c (Some 13) (cond d (Some 14) None))))
 
-early_first : (a b s c d : Bool) (rule : ℕ) → first_of_four a b c d ≡ Some rule → rule < 12
-    → first_of_five a b s c d ≡ Some rule
-early_first true b s c d rule e low = e
-early_first false true s c d rule e low = e
-early_first false false s true d rule e low = let n : 13 ≡ rule = cc in absurd (omega (arith, n, low))
-early_first false false s false true rule e low = let n : 14 ≡ rule = cc in absurd (omega (arith, n, low))
-early_first false false s false false rule e low = cc
+early_first : (a b s c d : Bool) (least : Option ℕ) → first_of_four a b c d ≡ least → is_early least ≡ true
+    → first_of_five a b s c d ≡ least
+early_first true b s c d least e early = e
+early_first false true s c d least e early = e
+early_first false false s true d least e early = let no : false ≡ true = ap is_early e ∙ early in cc
+early_first false false s false true least e early = let no : false ≡ true = ap is_early e ∙ early in cc
+early_first false false s false false least e early = let no : false ≡ true = ap is_early e ∙ early in cc
 
-third_first : (a b s c d : Bool) (rule : ℕ) → first_of_four a b c d ≡ Some rule → 12 ≤ rule → s ≡ true
+third_first : (a b s c d : Bool) (least : Option ℕ) → first_of_four a b c d ≡ least → is_early least ≡ false → s ≡ true
     → first_of_five a b s c d ≡ Some 12
-third_first true b s c d rule e high t = let n : 10 ≡ rule = cc in absurd (omega (arith, n, high))
-third_first false true s c d rule e high t = let n : 11 ≡ rule = cc in absurd (omega (arith, n, high))
-third_first false false s c d rule e high t = ap (λ b. cond b (Some 12) (cond c (Some 13) (cond d (Some 14) None))) t
+third_first true b s c d least e late t = let no : true ≡ false = ap is_early e ∙ late in cc
+third_first false true s c d least e late t = let no : true ≡ false = ap is_early e ∙ late in cc
+third_first false false s c d least e late t = ap (λ b. cond b (Some 12) (cond c (Some 13) (cond d (Some 14) None))) t
 
-late_first : (a b s c d : Bool) (rule : ℕ) → first_of_four a b c d ≡ Some rule → 12 ≤ rule → s ≡ false
-    → first_of_five a b s c d ≡ Some rule
-late_first true b s c d rule e high t = e
-late_first false true s c d rule e high t = e
-late_first false false s c d rule e high t =
-    ap (λ b. cond b (Some 12) (cond c (Some 13) (cond d (Some 14) None))) t ∙ e
+late_first : (a b s c d : Bool) (least : Option ℕ) → first_of_four a b c d ≡ least → s ≡ false
+    → first_of_five a b s c d ≡ least
+late_first true b s c d least e t = e
+late_first false true s c d least e t = e
+late_first false false s c d least e t = ap (λ b. cond b (Some 12) (cond c (Some 13) (cond d (Some 14) None))) t ∙ e
 
 module _ (p : List (List Cell)) (m : Moment) (after : IsAfter p m) where
   abbrev test : ℕ → Bool
@@ -265,30 +271,26 @@ module _ (p : List (List Cell)) (m : Moment) (after : IsAfter p m) where
   abbrev alone : ℕ → Bool
   alone rule = breaks_strictly m.exercise.now m.state.now.newest.len None m.column.now rule
 
-  -- what is found of those that a column decides by itself is found at the moment
-  found_alone : (rule : ℕ) → least_alone m.exercise.now m.state.now.newest.len m.column.now ≡ Some rule
-      → first_of_four (test 10) (test 11) (test 13) (test 14) ≡ Some rule
-  unfolding least_alone
-  found_alone rule e =
-      find_where (λ r. list_any (λ y. r == y) sounding_rules) test alone alone_rules refl
-      (λ r h. sounds_alone m.exercise.now p m.column.now r h
-      ∙ ap (λ n. breaks_strictly m.exercise.now n None m.column.now r) (sym after.state.newest.count))
-      ∙ e
+  module _ (least : Option ℕ) (e : least ≡ least_alone m.exercise.now m.state.now.newest.len m.column.now) where
+    -- what is found of those that a column decides by itself is found at the moment
+    found_alone : first_of_four (test 10) (test 11) (test 13) (test 14) ≡ least
+    unfolding least_alone
+    found_alone =
+        find_where (λ r. list_any (λ y. r == y) sounding_rules) test alone alone_rules refl
+        (λ r h. sounds_alone m.exercise.now p m.column.now r h
+        ∙ ap (λ n. breaks_strictly m.exercise.now n None m.column.now r) (sym after.state.newest.count))
+        ∙ sym e
 
-  module _ (rule : ℕ) (e : least_alone m.exercise.now m.state.now.newest.len m.column.now ≡ Some rule) where
-    pub early_joint : rule < 12 → find (λ r. is_strictly_broken_then all_sets r p m) joint_rules ≡ Some rule
-    early_joint low =
-        early_first (test 10) (test 11) (test 12) (test 13) (test 14) rule (found_alone rule e) low
+    pub early_joint : is_early least ≡ true → find (λ r. is_strictly_broken_then all_sets r p m) joint_rules ≡ least
+    early_joint early = early_first (test 10) (test 11) (test 12) (test 13) (test 14) least found_alone early
 
-    pub third_joint : 12 ≤ rule → is_strictly_broken_then all_sets 12 p m ≡ true
+    pub third_joint : is_early least ≡ false → is_strictly_broken_then all_sets 12 p m ≡ true
         → find (λ r. is_strictly_broken_then all_sets r p m) joint_rules ≡ Some 12
-    third_joint high t =
-        third_first (test 10) (test 11) (test 12) (test 13) (test 14) rule (found_alone rule e) high t
+    third_joint late t = third_first (test 10) (test 11) (test 12) (test 13) (test 14) least found_alone late t
 
-    pub late_joint : 12 ≤ rule → is_strictly_broken_then all_sets 12 p m ≡ false
-        → find (λ r. is_strictly_broken_then all_sets r p m) joint_rules ≡ Some rule
-    late_joint high t =
-        late_first (test 10) (test 11) (test 12) (test 13) (test 14) rule (found_alone rule e) high t
+    pub late_joint : is_strictly_broken_then all_sets 12 p m ≡ false
+        → find (λ r. is_strictly_broken_then all_sets r p m) joint_rules ≡ least
+    late_joint t = late_first (test 10) (test 11) (test 12) (test 13) (test 14) least found_alone t
 
 alone_read : list_all is_read alone_rules ≡ true
 unfolding rules_read

@@ -1,5 +1,5 @@
 -- Which rules that a column breaks are told without judging all of it.
-use Rattle.std.specs.Prelude.{◌≡◌, ℕ, ◌==◌, ◌&&◌, ◌^◌, Bool, nat_lt, List, [], ◌∷◌, Option, None, length, reverse, if◌then◌else◌}
+use Rattle.std.specs.Prelude.{◌≡◌, ℕ, ◌==◌, ◌&&◌, ◌^◌, Bool, nat_lt, List, [], ◌∷◌, Option, None, Some, false, length, reverse, if◌then◌else◌}
 use Rattle.std.specs.List.{find, list_any}
 use Rattle.fux_grid.specs.declared.cell.Cell.{Cell}
 use Rattle.fux_grid.specs.declared.exercise.Exercise.{Exercise}
@@ -44,6 +44,11 @@ alone_rules = 10 ∷ 11 ∷ 13 ∷ 14 ∷ []
 -- the least of them that a column of place i breaks strictly, whatever stands before it
 unfoldable pub least_alone : Exercise → ℕ → List Cell → Option ℕ
 least_alone ex i col = find (breaks_strictly ex i None col) alone_rules
+
+-- a rule that may be lacking is S10 or S11
+abbrev pub is_early : Option ℕ → Bool
+is_early None = false
+is_early (Some rule) = nat_lt rule 12
 
 -- a rule of melody is broken by a cell, after notes of these pitches
 abbrev pub breaks_after : ℕ → List Pitch → Cell → ℕ → Bool

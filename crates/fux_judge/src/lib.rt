@@ -40,7 +40,7 @@ pub use past::Past;
 pub use pruning::pruned_within;
 pub use state::State;
 pub use still::{again_still, step_still};
-pub use told::{is_told_broken, line_break, told_rule};
+pub use told::{is_rule, is_told_broken, line_break, told_rule};
 pub use total::penalty;
 pub use unbroken::{Price, step_again, step_unbroken};
 pub use verdict::{Verdict, step};

@@ -10,7 +10,7 @@ ghost use Rattle.fux_judge.specs.Moments.{IsAfter, IsReadable, is_strict_break_t
 ghost use Rattle.fux_judge.specs.Penalties.{newly_broken};
 ghost use Rattle.fux_judge.specs.Rules.{all_sets, is_late, is_read};
 ghost use Rattle.fux_judge.specs.States.{IsStateOf};
-ghost use Rattle.fux_judge.specs.Told.{TellsLine, joint_rules, least_alone, least_by_cell, least_newly_broken, line_rules, next_rules};
+ghost use Rattle.fux_judge.specs.Told.{TellsLine, is_early, joint_rules, least_alone, least_by_cell, least_newly_broken, line_rules, next_rules};
 ghost use Rattle.fux_judge.specs.Verdicts.{GoingOn};
 
 use crate::kept::opens_well;
@@ -113,25 +113,46 @@ fn first_broken(rules: &[u8], m: &Moment<'_>) -> Option<u8>
     None
 }
 
-/// The first of S10 to S14 that is strictly broken. Where the least one that the column breaks by
-/// itself is known, no more than S12 is asked.
-fn first_jointly(m: &Moment<'_>, alone: Option<u8>) -> Option<u8>
+/// Whether a rule that may be lacking is S10 or S11.
+fn is_early(least: Option<u8>) -> bool
+    ensures { result ≡ is_early least }
+{
+    match least {
+        Some(rule) => rule < 12,
+        None => false,
+    }
+}
+
+/// The first of S10 to S14 that is strictly broken, where the least one is known that the column
+/// breaks by itself: no more than S12 is asked.
+fn first_with(m: &Moment<'_>, least: Option<u8>) -> Option<u8>
     requires readable { IsReadable m.now }
-    requires alone { IfSome alone (λ rule. least_alone m.now.exercise.now m.now.state.now.newest.len
-        m.now.column.now ≡ Some rule) }
+    requires least { least ≡ least_alone m.now.exercise.now m.now.state.now.newest.len
+        m.now.column.now }
     ensures { (p : Columns) → IsAfter p m.now
         → result ≡ find (λ rule. is_strictly_broken_then all_sets rule p m.now) joint_rules }
 {
-    let Some(rule) = alone else {
-        return first_broken(told_jointly(), m);
-    };
-    if rule < 12 {
-        return Some(rule);
+    if is_early(least) {
+        return least;
     }
     if opens_well(m) {
-        return Some(rule);
+        return least;
     }
     Some(12)
+}
+
+/// The first of S10 to S14 that is strictly broken, where that one may be known.
+fn first_jointly(m: &Moment<'_>, alone: Option<Option<u8>>) -> Option<u8>
+    requires readable { IsReadable m.now }
+    requires alone { IfSome alone (λ least. least ≡ least_alone m.now.exercise.now
+        m.now.state.now.newest.len m.now.column.now) }
+    ensures { (p : Columns) → IsAfter p m.now
+        → result ≡ find (λ rule. is_strictly_broken_then all_sets rule p m.now) joint_rules }
+{
+    match alone {
+        Some(least) => first_with(m, least),
+        None => first_broken(told_jointly(), m),
+    }
 }
 
 /// The least of S15 to S17 of which a column settles a strict break, where it settles one.
@@ -152,12 +173,12 @@ fn next_rule(ex: &Exercise, state: &State, col: &Column) -> Option<u8>
 
 /// The least of S10 to S17 of which a column settles a strict break, where it settles one. Where
 /// nothing begins in it, it isn't told.
-fn joint_rule(ex: &Exercise, state: &State, col: &Column, alone: Option<u8>) -> Option<u8>
+fn joint_rule(ex: &Exercise, state: &State, col: &Column, alone: Option<Option<u8>>) -> Option<u8>
     requires valid { IsValid ex.now }
     requires room { state.now.newest.len < columns_in ex.now }
     requires full { length col.now.items ≡ ex.now.voices }
-    requires alone { IfSome alone (λ rule. least_alone ex.now state.now.newest.len col.now.items
-        ≡ Some rule) }
+    requires alone { IfSome alone (λ least. least ≡ least_alone ex.now state.now.newest.len
+        col.now.items) }
     ensures { IfSome result (λ rule. GoingOn ex.now state.now col.now.items (λ p added. Some rule
         ≡ find (newly_broken ex.now p added) (joint_rules ++ next_rules))) }
 {
@@ -173,19 +194,19 @@ fn joint_rule(ex: &Exercise, state: &State, col: &Column, alone: Option<u8>) -> 
 
 /// The least rule of which a column settles a strict break, where it is one of S3 to S17: most
 /// columns that break a rule break one of these. None where it isn't told. The least of S3 to S9 is
-/// given, and the least one may be that the column breaks by itself: then no more than S12 is asked.
+/// given, and the least of S10, S11, S13 and S14 may be: then no more than S12 is asked of these.
 pub fn told_rule(
     ex: &Exercise,
     state: &State,
     col: &Column,
-    alone: Option<u8>,
+    alone: Option<Option<u8>>,
     line: Option<u8>,
 ) -> Option<u8>
     requires valid { IsValid ex.now }
     requires room { state.now.newest.len < columns_in ex.now }
     requires full { length col.now.items ≡ ex.now.voices }
-    requires alone { IfSome alone (λ rule. least_alone ex.now state.now.newest.len col.now.items
-        ≡ Some rule) }
+    requires alone { IfSome alone (λ least. least ≡ least_alone ex.now state.now.newest.len
+        col.now.items) }
     requires line { TellsLine ex.now state.now col.now.items line }
     ensures { IfSome result (λ rule. GoingOn ex.now state.now col.now.items
         (λ p added. least_newly_broken ex.now p added ≡ Some rule)) }
@@ -229,6 +250,27 @@ fn breaks_rule(ex: &Exercise, state: &State, col: &Column, rule: u8) -> bool
     is_strictly_broken_now(rule, &moment)
 }
 
+/// Whether a rule is the one that is told.
+#[inline]
+pub fn is_rule(told: Option<u8>, rule: u8) -> bool
+    ensures { OnTrue result (told ≡ Some rule) }
+{
+    match told {
+        Some(least) => least == rule,
+        None => false,
+    }
+}
+
+/// Whether it is the one that may be known.
+fn is_least(alone: Option<Option<u8>>, rule: u8) -> bool
+    ensures { OnTrue result (alone ≡ Some (Some rule)) }
+{
+    match alone {
+        Some(least) => is_rule(least, rule),
+        None => false,
+    }
+}
+
 /// Whether a column is told to settle a strict break of a rule. It is told at once where that is
 /// the rule given as the least that the column breaks by itself; else that rule alone is asked.
 pub fn is_told_broken(
@@ -236,20 +278,18 @@ pub fn is_told_broken(
     state: &State,
     col: &Column,
     rule: u8,
-    alone: Option<u8>,
+    alone: Option<Option<u8>>,
 ) -> bool
     requires valid { IsValid ex.now }
     requires room { state.now.newest.len < columns_in ex.now }
     requires full { length col.now.items ≡ ex.now.voices }
-    requires alone { IfSome alone (λ rule. least_alone ex.now state.now.newest.len col.now.items
-        ≡ Some rule) }
+    requires alone { IfSome alone (λ least. least ≡ least_alone ex.now state.now.newest.len
+        col.now.items) }
     ensures { OnTrue result (GoingOn ex.now state.now col.now.items
         (λ p added. (is_read rule && newly_broken ex.now p added rule) ≡ true)) }
 {
-    if let Some(least) = alone {
-        if least == rule {
-            return true;
-        }
+    if is_least(alone, rule) {
+        return true;
     }
     breaks_rule(ex, state, col, rule)
 }

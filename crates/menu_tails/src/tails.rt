@@ -130,7 +130,7 @@ impl<'a> Tails for MenuTails<'a> {
         self.tables.column(i, k)
     }
 
-    fn alone(&self, i: usize, k: usize) -> Option<u8> {
+    fn alone(&self, i: usize, k: usize) -> Option<Option<u8>> {
         self.tables.alone(i, k)
     }
 

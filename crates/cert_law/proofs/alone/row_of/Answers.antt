@@ -1,9 +1,10 @@
 use Rattle.std.proofs.Common.{◌≡◌, ◌+◌, ◌<◌, ◌∷◌, [], ℕ, List, None, Option, ap, length, slice_index_or, ◌∙◌, subst, sym, arith, length-append}
-use Rattle.cert_law.specs.Alone.{IsAlone, IsAloneRow}
+use Rattle.cert_law.specs.Alone.{IsAloneRow}
 use Rattle.fux_grid.specs.declared.cell.Cell.{Cell}
 use Rattle.fux_grid.specs.declared.exercise.Exercise.{Exercise}
 use Rattle.fux_grid.specs.Exercises.{columns_in}
 use Rattle.fux_grid.specs.Menus.{menu_of}
+use Rattle.fux_judge.specs.Told.{least_alone}
 use Rattle.cert_law.proofs.AloneLemmas.{each_more}
 use Rattle.cert_law.proofs.alone.row_of.Goals as goal
 
@@ -22,14 +23,14 @@ loop-k-preserved c =
     let before = c.loop-k.invariant in
     let pushed = c.push_reserved.ensures.items in
     let told = c.alone_of-told.result in
-    let P : ℕ → Option ℕ → Type 0 = λ k o. IsAlone ex i (slice_index_or (menu_of ex i) k []) o in
+    let P : ℕ → Option ℕ → Type 0 = λ k o. o ≡ least_alone ex i (slice_index_or (menu_of ex i) k []) in
     let col : c.column.result.now.items ≡ slice_index_or (menu_of ex i) c.loop-k.k [] =
     c.column.ensures ∙ ap (λ (e : Exercise). slice_index_or (menu_of e i) c.loop-k.k []) c.requires.same in
     record {
       each = ap length pushed ∙ length-append c.loop-k.row.items (_ ∷ []) ∙ ap (λ n. n + 1) before.each;
       room = omega (arith, before.room, c.push_reserved.ensures.capacity);
       alone = each_more P c.loop-k.row.items _ told None c.loop-k.k before.each pushed before.alone
-          (subst (λ (d : List Cell). IsAlone ex i d told) col c.alone_of-told.ensures);
+          (subst (λ (d : List Cell). told ≡ least_alone ex i d) col c.alone_of-told.ensures);
     }
 
 pub returns : goal.returns

@@ -1,7 +1,7 @@
 use Rattle.std.proofs.Common.{◌≡◌, ◌<◌, ◌≤◌, ℕ, [], None, length, slice_index_or}
 use Rattle.std.specs.Prelude.{vec_capacity}
-use Rattle.cert_law.specs.Alone.{IsAlone}
 use Rattle.fux_grid.specs.Menus.{menu_of}
+use Rattle.fux_judge.specs.Told.{least_alone}
 use Rattle.cert_law.proofs.alone.row_of.Given as goal
 
 abbrev pub invariant-loop-k : goal.invariant-loop-k
@@ -9,5 +9,5 @@ invariant-loop-k l = record {
   each : length l.row.items ≡ l.k;
   room : l.width ≤ vec_capacity l.row;
   alone : (k : ℕ) → k < l.k
-      → IsAlone l.ex l.i (slice_index_or (menu_of l.ex l.i) k []) (slice_index_or l.row.items k None);
+      → slice_index_or l.row.items k None ≡ least_alone l.ex l.i (slice_index_or (menu_of l.ex l.i) k []);
 }

@@ -1,7 +1,7 @@
 use Rattle.std.proofs.Common.{◌≡◌, ◌<◌, ℕ, [], List, None, Option, length, slice_index_or, ap, sym, ◌∙◌, subst, arith}
 use Rattle.std.proofs.lemmas.List.{get_or_default}
-use Rattle.cert_law.specs.Alone.{IsAlone}
 use Rattle.fux_grid.specs.Menus.{menu_of}
+use Rattle.fux_judge.specs.Told.{least_alone}
 use Rattle.cert_law.proofs.alone.told_in.Goals as goal
 
 pub returns : goal.returns
@@ -10,6 +10,6 @@ returns c = λ ex are.
     let within : c.args.i < length rules = omega (arith, c.if-i-rules.false) in
     let row : c.as_slice-row.result.now ≡ slice_index_or rules c.args.i [] =
     c.as_slice-row.ensures ∙ c.index-rules-i.is ∙ get_or_default rules c.args.i c.index-rules-i.result [] within in
-    subst (λ (r : List (Option ℕ)). IsAlone ex c.args.i (slice_index_or (menu_of ex c.args.i) c.args.k [])
-    (slice_index_or r c.args.k None)) (sym row)
+    subst (λ (r : List (Option ℕ)). slice_index_or r c.args.k None
+    ≡ least_alone ex c.args.i (slice_index_or (menu_of ex c.args.i) c.args.k [])) (sym row)
     (are c.args.i within c.args.k (omega (arith, c.if-k-row.false, ap length row)))

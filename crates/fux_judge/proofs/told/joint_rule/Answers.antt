@@ -11,11 +11,11 @@ pub first_jointly-requires-clause-alone : goal.first_jointly-requires-clause-alo
 first_jointly-requires-clause-alone c =
     let m = c.moment_of-moment.result in
     let is = c.moment_of-moment.ensures in
-    subst (λ (ex : Exercise). IfSome c.args.alone (λ rule. least_alone ex m.state.now.newest.len m.column.now ≡ Some rule))
+    subst (λ (ex : Exercise). IfSome c.args.alone (λ least. least ≡ least_alone ex m.state.now.newest.len m.column.now))
     (sym is.exercise)
-    (subst (λ n. IfSome c.args.alone (λ rule. least_alone c.args.ex.now n m.column.now ≡ Some rule)) (sym is.place)
-    (subst (λ (d : List Cell). IfSome c.args.alone (λ rule. least_alone c.args.ex.now c.args.state.now.newest.len d
-    ≡ Some rule)) (sym is.column) c.requires.alone))
+    (subst (λ n. IfSome c.args.alone (λ least. least ≡ least_alone c.args.ex.now n m.column.now)) (sym is.place)
+    (subst (λ (d : List Cell). IfSome c.args.alone (λ least. least
+    ≡ least_alone c.args.ex.now c.args.state.now.newest.len d)) (sym is.column) c.requires.alone))
 
 pub returns-in-Some : goal.returns-in-Some
 returns-in-Some c = λ p st on.

@@ -1,7 +1,7 @@
 use Rattle.std.proofs.Common.{◌≡◌, ◌==◌, ℕ, Option, ap, sym, subst}
 use Rattle.std.specs.Prelude.{Some}
 use Rattle.std.proofs.lemmas.Bool.{OnTrue_from, eqb-true}
-use Rattle.cert_law.proofs.voices_told.is_rule.Goals as goal
+use Rattle.fux_judge.proofs.told.is_rule.Goals as goal
 
 pub returns-in-Some : goal.returns-in-Some
 returns-in-Some c =
