@@ -14,7 +14,7 @@ mod whole;
 
 pub use guide::{Place, PricedGuide, Standing, case_numbers, first_place, numbers_in};
 pub use pricing::{MOST_CASES, Pricing};
-pub use search::{search_priced, search_unpriced, search_web, try_web, web_of};
+pub use search::{search_unpriced, search_web, try_web, web_of};
 pub use states::{State, WebFault};
 pub use web::{Edge, MOST_COST, MOST_LABELS, Spot, Web};
 pub use whole::whole_web;

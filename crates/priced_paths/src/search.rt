@@ -139,27 +139,3 @@ pub fn search_web<P: Pricing>(
     };
     search_sharpened(alloc, &guide, known, budget, purse)
 }
-
-/// The first leaf of least value, by the front over the floors of the pricing. Where the web of
-/// what is kept is too big the front goes by the tree's own floors. Where the budget is enough the
-/// answer is that of any search of the tree; where it isn't, each leaf has at least the bound for a
-/// value.
-pub fn search_priced<P: Pricing>(alloc: Global, pricing: &P, budget: u32) -> Result<Outcome, Memory>
-    ensures found { IfOk result (λ outcome. IfFound outcome (IsFirstLeast (P.Tree.live (P.tree pricing.now))
-        (P.Tree.height (P.tree pricing.now)))) }
-    ensures nothing { IfOk result (λ outcome. OnNothing outcome (HasNoLeaf (P.Tree.live (P.tree pricing.now))
-        (P.Tree.height (P.tree pricing.now)))) }
-    ensures bound { IfOk result (λ outcome. IfSpent outcome (BoundsLeaves (P.Tree.live (P.tree pricing.now))
-        (P.Tree.height (P.tree pricing.now)))) }
-
-    // It ends wherever a front over the tree's own floors does.
-    ensures over { IfOk result (λ outcome. IsSpent outcome → IsOverBudget (P.Tree.live (P.tree pricing.now))
-        (P.Tree.height (P.tree pricing.now)) budget) }
-    ensures agrees { IfOk result (AgreesWithAnswers (P.Tree.live (P.tree pricing.now))
-        (P.Tree.height (P.tree pricing.now))) }
-{
-    match web_of(alloc, pricing, usize::MAX)? {
-        Some(web) => search_web(alloc, pricing, &web, 0, budget, &mut Purse::of(budget)),
-        None => search_unpriced(alloc, pricing.space(), 0, budget),
-    }
-}
