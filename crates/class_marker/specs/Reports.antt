@@ -22,12 +22,6 @@ abbrev pub report_of : List ℕ → Marking → List ℕ
 report_of name (Marked lines) = name ++ 10 ∷ string_bytes lines.text
 report_of name (Refused why) = name ++ 10 ∷ unmarked_text name why ++ 10 ∷ []
 
--- these bytes are the report of the exercise of this name and text
-pub record IsReportOf (name : List ℕ) (text : Text) (bytes : List ℕ) : Type 0 where
-  pub marking : Marking
-  pub is : IsMarkingOf text marking
-  pub told : bytes ≡ report_of name marking
-
 -- there is a mark
 abbrev pub has_mark : Marking → Bool
 has_mark (Marked lines) = lines.has_mark

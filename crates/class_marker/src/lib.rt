@@ -10,5 +10,5 @@ mod unmarked;
 pub use class::{ClassReport, report};
 pub use list::{ListFault, listed_text, lists_are_read, read_list};
 pub use marking::{MarkLines, lines_of, mark};
-pub use one::{Marking, Text, mark_text, report_one};
+pub use one::{Marking, Text, mark_text};
 pub use unmarked::{Unmarked, put_unmarked};

@@ -2,7 +2,7 @@
 
 ghost use Rattle.std.specs.Prelude.{◌≡◌, ◌++◌, IfOk, OnOk, string_bytes};
 ghost use Rattle.class_marker.specs.Markings.{IsMarkingOf};
-ghost use Rattle.class_marker.specs.Reports.{IsReportOf, report_of};
+ghost use Rattle.class_marker.specs.Reports.{report_of};
 
 use crate::marking::{MarkLines, mark};
 use crate::unmarked::{Unmarked, put_unmarked};
@@ -68,14 +68,4 @@ pub(crate) fn put_report(text: &mut String, name: &str, marking: &Marking) -> Re
             Ok(text.push('\n')?)
         }
     }
-}
-
-/// The report of the exercise in a file of this name.
-pub fn report_one(alloc: Global, name: &str, text: &Text) -> Result<String, Memory>
-    ensures { IfOk result (λ report. IsReportOf name.now text.now (string_bytes report)) }
-{
-    let marking = mark_text(alloc, text)?;
-    let mut report = String::new(alloc);
-    put_report(&mut report, name, &marking)?;
-    Ok(report)
 }
