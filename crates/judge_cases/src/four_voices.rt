@@ -1,8 +1,7 @@
 //! Settings in four voices, on which `settings` tries the judge.
 
-/// Each setting with what is paid of it, where that is asked. The comment has the rules and tolls
-/// of which the rows above lack a voice, two voices or a species; at the end stand settings that
-/// break S3.
+/// Each setting with what is paid of it. The comment has the rules and tolls of which the rows
+/// above lack a voice, two voices or a species.
 pub const JUDGED: &str = "\
 ; S4-S10 S12-S17 S19-S22 S24-S25; Q2-Q4 Q6-Q13 Q17-Q19
 lydian 5 0 2
@@ -697,49 +696,4 @@ E3:8 D3:8 F3:8 E3:8
 G4:8 F4:8 A4:8 G4:8
 D5:2 C5:2 B4:2 C5:2 D5:2 C5:2 B4:2 C5:2 D5:2 C5:2 D5:2 D5:2 E5:8
 =
-63
-
-; a rest behind a note
-lydian 3 0 2
-cantus F4 G4 F4
-E3:1 r:1 F3:2 D3:2 C3:2 D3:2 E3:2 D3:2 E3:2 F3:8
-A3:8 B3:8 A3:8
-F4:8 G4:8 F4:8
-F4:8 D4:8 A4:8
-=
-
-; two quavers behind a minim, in bar 2
-lydian 5 1 0
-cantus F3 E3 F3
-F3:8 E3:8 F3:8
-r:4 F3:4 Bb3:4 C4:2 D4:1 E4:1 D4:8
-B3:8 C4:8 B3:8
-F4:8 G4:8 F4:8
-=
-
-; a rest behind a note
-mixolydian 2 2 3
-cantus G4 F#4 G4
-C3:8 D3:8 C3:8
-E3:8 E3:8 B3:8
-D4:1 r:3 E4:4 F4:4 E4:4 D4:8
-G4:8 F#4:8 G4:8
-=
-
-; a single quaver, in bar 2
-aeolian 5 3 1
-cantus A3 B3 A3
-E3:8 G3:8 A3:8
-A3:8 B3:8 A3:8
-B3:8 D4:8 E4:8
-B4:4 E5:4 D5:2 C5:1 D5:3 C5:2 B4:8
-=
-
-; a quaver at the end of the list, which no menu has, in an inner voice
-dorian 5 1 0
-cantus D3 C#3 D3
-D3:8 C#3:8 D3:8
-F3:6 E3:6 D3:2 F3:2 G3:7 A3:1
-C4:8 E4:8 C4:8
-A4:8 G4:8 C4:8
-=";
+63";

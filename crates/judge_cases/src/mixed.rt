@@ -1,5 +1,4 @@
-//! Settings of mixed exercises, judged column by column and as a whole, and their breaks of S27 and
-//! S28. S15 is never broken in them.
+//! Settings of mixed exercises, and their breaks of S27 and S28. S15 is never broken in them.
 
 ghost use Rattle.std.specs.Prelude.{◌≡◌, ◌≤◌, length};
 ghost use Rattle.fux_grid.specs.Exercises.{IsValid, columns_in};
@@ -7,7 +6,6 @@ ghost use Rattle.fux_grid.specs.Exercises.{IsValid, columns_in};
 use crate::agree::agree;
 use crate::mixed_tables::{JUDGED, WORKED};
 use crate::parts::parts;
-use crate::settings::judge;
 use fux_grid::{Exercise, Score, mixed_as};
 use score_marker::{Mark, marks};
 use short_scores::case_of;
@@ -42,7 +40,7 @@ fn shown(alloc: Global, marks: &[Mark]) -> Result<String, Fail> {
     Ok(text)
 }
 
-/// Compares the marks of a score that is judged as the whole with those that are wanted.
+/// Compares the marks of a score with those that are wanted.
 fn compare(
     rt: &impl Abort,
     alloc: Global,
@@ -55,7 +53,6 @@ fn compare(
     requires voices { score.now.voices ≡ ex.now.voices }
     requires few { length score.now.columns ≤ columns_in ex.now }
 {
-    judge(rt, alloc, ex, score, text)?;
     if score.len() != 8 * usize::from(ex.bars) {
         return Err("no whole score".into());
     }
@@ -64,8 +61,8 @@ fn compare(
     Ok(())
 }
 
-/// Each setting of a table is judged as the whole score, and has its marks.
-fn judge_all(rt: &impl Abort, alloc: Global, table: &str) -> Result<(), Fail> {
+/// Each setting of a table has its marks.
+fn mark_all(rt: &impl Abort, alloc: Global, table: &str) -> Result<(), Fail> {
     for text in table.split("\n\n") {
         let (text, wanted) = parts(text)?;
         let case = case_of(alloc, text)?;
@@ -80,10 +77,6 @@ fn judge_all(rt: &impl Abort, alloc: Global, table: &str) -> Result<(), Fail> {
 
 #[test]
 fn mixed_settings_have_their_breaks(rt: HostRuntime) -> Result<(), Fail> {
-    judge_all(&rt, rt.alloc(), WORKED)
-}
-
-#[test]
-fn mixed_settings_are_judged_as_the_whole_score(rt: HostRuntime) -> Result<(), Fail> {
-    judge_all(&rt, rt.alloc(), JUDGED)
+    mark_all(&rt, rt.alloc(), WORKED)?;
+    mark_all(&rt, rt.alloc(), JUDGED)
 }

@@ -1,8 +1,7 @@
 //! Settings in three voices, on which `settings` tries the judge.
 
-/// Each setting with what is paid of it, where that is asked. The comment has the rules and tolls
-/// of which the rows above lack a voice, two voices or a species; at the end stand settings that
-/// break S3.
+/// Each setting with what is paid of it. The comment has the rules and tolls of which the rows
+/// above lack a voice, two voices or a species.
 pub const JUDGED: &str = "\
 ; S4-S7 S9-S10 S12-S15 S19-S22 S24-S25; Q2-Q13 Q17-Q19
 aeolian 5 0 1
@@ -480,28 +479,4 @@ relax 13 0 39
 relax 18 0 5
 relax 24 0 24
 =
-272
-
-; a single quaver, in bar 1
-aeolian 5 0 2
-cantus A4 G#4 A4
-F3:2 G3:1 F3:3 E3:6 F3:4 E3:8
-F4:8 E4:8 D4:8
-A4:8 G#4:8 A4:8
-=
-
-; a rest behind a note
-phrygian 3 1 0
-cantus E3 E3 E3
-E3:8 E3:8 E3:8
-B3:1 r:1 D4:2 B3:2 D4:2 A3:2 G3:2 E3:2 F3:2 C3:8
-C4:8 D4:8 E4:8
-=
-
-; a tie that goes on too long
-dorian 5 2 1
-cantus D4 E4 D4
-A3:8 E3:8 D3:8
-D4:8 E4:8 D4:8
-F4:2 G4:1 A4:1 B4:10 A4:2 G4:8
-=";
+272";

@@ -1,8 +1,7 @@
 //! Settings in two voices, on which `settings` tries the judge.
 
-/// Each setting with what is paid of it, where that is asked. The comment has the rules and tolls
-/// of which the rows above lack a voice, two voices or a species; at the end stand settings that
-/// break S3.
+/// Each setting with what is paid of it. The comment has the rules and tolls of which the rows
+/// above lack a voice, two voices or a species.
 pub const JUDGED: &str = "\
 ; S4-S5 S7-S8 S10 S12-S15 S17 S19-S22 S24-S26; Q2 Q6-Q11 Q13 Q17 Q19
 mixolydian 5 0 1
@@ -369,25 +368,4 @@ relax 13 0 8
 relax 14 0 17
 relax 22 0 16
 =
-62
-
-; a rest behind a note
-dorian 2 0 1
-cantus D4 E4 D4
-C4:3 r:1 B3:4 A3:4 G3:4 F3:8
-D4:8 E4:8 D4:8
-=
-
-; two quavers behind a minim, in bar 2
-phrygian 5 1 0
-cantus E3 F3 E3
-E3:8 F3:8 E3:8
-E4:2 D4:1 E4:1 D4:4 C4:4 B3:2 A3:1 G3:1 B3:8
-=
-
-; a quaver at the end of the list, which no menu has
-mixolydian 5 1 0
-cantus G3 F#3 G3
-G3:8 F#3:8 G3:8
-F4:2 E4:1 D4:1 E4:4 F4:2 E4:2 C4:2 D4:2 B3:7 C4:1
-=";
+62";
