@@ -1,8 +1,7 @@
 -- Each column of a bar may follow the one before it.
 use Rattle.std.specs.Prelude.{◌≡◌, ℕ, zero, suc, ◌+◌, ◌*◌, ◌<◌, ◌≤◌, List, [], ◌∷◌, ◌++◌, IsSome, IsTrue, nat_lt, true, length, replicate, reverse, slice_index_or, take, refl}
 use Rattle.std.proofs.Common.{sym, ap, ◌∙◌, subst, arith}
-use Rattle.std.proofs.lemmas.Grind.{flat_map-append}
-use Rattle.std.proofs.lemmas.List.{append_assoc, append-nil, length-append, length-map, length-take-le, map-append, replicate-append-replicate, take_more}
+use Rattle.std.proofs.lemmas.List.{append_assoc, append-nil, length-append, length-map, length-take-le, replicate-append-replicate}
 use Rattle.fux_grid.specs.declared.cell.Cell.{Cell}
 use Rattle.fux_grid.specs.declared.cell.Cell.TheVariants.{Rest, Hold, Start}
 use Rattle.fux_grid.specs.Cells.{cell_follows}
@@ -68,15 +67,6 @@ module _ (before : List (List Cell)) (a b : Cell) where
       next (suc (suc v)) = refl
 
 -- ---- bar after bar
-
-pub columns-more : (path : List ℕ) (i : ℕ) → i < length path → columns_of (bars_at (take (i + 1) path))
-    ≡ columns_of (bars_at (take i path)) ++ columns_of_bar (numbered_bar (slice_index_or path i 0))
-columns-more path i h =
-    let k = slice_index_or path i 0 in
-    ap (λ ks. columns_of (bars_at ks)) (take_more path i 0 h)
-    ∙ ap columns_of (map-append numbered_bar (take i path) (k ∷ []))
-    ∙ flat_map-append columns_of_bar (bars_at (take i path)) (numbered_bar k ∷ [])
-    ∙ ap (λ cols. columns_of (bars_at (take i path)) ++ cols) (append-nil (columns_of_bar (numbered_bar k)))
 
 eight_each : (bars : List (List Cell)) → length (columns_of bars) ≡ 8 * length bars
 eight_each [] = refl

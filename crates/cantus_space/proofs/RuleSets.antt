@@ -4,16 +4,6 @@ use Rattle.std.specs.List.{list_any}
 use Rattle.std.proofs.Common.{ap, sym, ◌∙◌}
 use Rattle.std.proofs.lemmas.Bool.{eqb-true}
 
-pub five-more : (h a b c d e : Bool)
-    → (((((h || a) || b) || c) || d) || e) ≡ (h || (a || (b || (c || (d || (e || false))))))
-five-more true a b c d e = refl
-five-more false true b c d e = refl
-five-more false false true c d e = refl
-five-more false false false true d e = refl
-five-more false false false false true e = refl
-five-more false false false false false true = refl
-five-more false false false false false false = refl
-
 pub or-assoc : (a b c : Bool) → ((a || b) || c) ≡ (a || (b || c))
 or-assoc true b c = refl
 or-assoc false b c = refl

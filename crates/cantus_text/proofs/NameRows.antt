@@ -31,35 +31,6 @@ between-alone owed false true f g a b s t e = absurd (clash 10 32 (first_byte 10
     clash b c h s t = omega (arith, h, s, t)
 between-alone owed false false f g a b s t e = (refl, s.1 ∙ sym t.1)
 
--- no space comes next, nor the end of the line where none is owed
-pub between-stops : (owed : ℕ) (bytes : List ℕ)
-    → ((b : ℕ) (more : List ℕ) → bytes ≡ b ∷ more → (b ≡ 32 → ⊥) × (b ≡ 10 → owed ≡ 0 → ⊥))
-    → Stops (Between owed) bytes (length bytes)
-between-stops owed bytes none = record {
-  front = [];
-  rest = bytes;
-  parts = refl;
-  count = refl;
-  here = record {
-    begins = (true, 32 ∷ [], refl);
-    open_ = λ goes text. no_text goes text;
-    longest = λ b more e (goes, r, text). next b more e goes r text;
-  };
-}
-  where
-    no_text : (goes : Bool) → Between owed goes [] → ⊥
-    no_text true e = omega (arith, ap length e)
-    no_text false e = omega (arith, ap length e.1)
-
-    next : (b : ℕ) (more : List ℕ) → bytes ≡ b ∷ more → (goes : Bool) (r : List ℕ) → Between owed goes (b ∷ r) → ⊥
-    next b more e true r text = (none b more e).0 (first_byte b 32 r [] text)
-    next b more e false r text = (none b more e).1 (first_byte b 10 r [] text.1) text.0
-
-pub between-stops_at_end : (owed : ℕ) (bytes : List ℕ) → bytes ≡ [] → Stops (Between owed) bytes 0
-between-stops_at_end owed bytes none =
-    subst (Stops (Between owed) bytes) (ap length none)
-    (between-stops owed bytes (λ b more e. let both : [] ≡ b ∷ more = sym none ∙ e in absurd (omega (arith, ap length both))))
-
 -- ---- no names begin others, and names go on
 
 goes-alone : (goes : Bool) (more : List Pitch → List ℕ → Type 0) → Alone more → Alone (Goes goes more)

@@ -44,10 +44,6 @@ bound_is ex sheet entries i k col own least is lowest bound before =
     (subst (λ (c : List Cell). (x : ℕ) → link_of ex sheet i before c ≡ Some x → IsSomeAnd own (λ y. y ≤ x)) is (lowest before))
     bound
 
--- no sum is less than nothing
-pub from_zero : (sum : Option ℕ) → IsFrom (Some 0) sum
-from_zero sum x e = let least : 0 ≤ x = omega arith in least
-
 -- the bound of the column of a number is that of its place
 pub bound_at : (ex : Exercise) (sheet : Sheet) (entries : List Potential) (number i k : ℕ) (least : Option ℕ)
     → number ≡ columns_before ex i + k → k < length (menu_of ex i) → IsBound ex sheet entries i k least

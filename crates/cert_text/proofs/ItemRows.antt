@@ -171,10 +171,6 @@ count-not i byte e count =
 
 -- ---- the lines from a voice on
 
-pub free_from-none : (ex : Exercise) (v : ℕ) → ex.voices ≤ v → free_from ex v ≡ []
-free_from-none ex v past =
-    let none : ex.voices - v ≡ 0 = omega (arith, past) in ap (free_of ex v) none
-
 pub free_from-cantus : (ex : Exercise) (v : ℕ) → v < ex.voices → v ≡ ex.cantus_voice
     → free_from ex (v + 1) ≡ free_from ex v
 free_from-cantus ex v here e =
@@ -186,11 +182,6 @@ pub free_from-other : (ex : Exercise) (v : ℕ) → v < ex.voices → v ≢ ex.c
 free_from-other ex v here e =
     let count : ex.voices - v ≡ suc (ex.voices - (v + 1)) = omega (arith, here) in
     sym (ap (free_of ex v) count ∙ free-other ex v (ex.voices - (v + 1)) (ne_eqb v ex.cantus_voice e))
-
-pub none-reads : (ex : Exercise) (v : ℕ) → ex.voices ≤ v → (bytes : List ℕ)
-    → Reads (SingLines ex (free_from ex v)) bytes tt bytes
-none-reads ex v past bytes =
-    subst (λ vs. Reads (SingLines ex vs) bytes tt bytes) (sym (free_from-none ex v past)) ([], refl, (refl, refl))
 
 module _ (ex : Exercise) (v : ℕ) (here : v < ex.voices) (other : v ≢ ex.cantus_voice) (valid : IsValid ex) where
   pub line-stops : (bytes : List ℕ) (left : ℕ) → Stops (SingLine ex v) bytes left

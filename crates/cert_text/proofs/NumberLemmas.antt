@@ -57,9 +57,6 @@ fails s ds more b t whole are none also e =
     let both : Some t ≡ None = sym one ∙ two in
     absurd (grind (arith, both))
 
-empty_number : (m : ℕ) → m < 2 ^ 64 → decimal m ≡ [] → ⊥
-empty_number m fits e = omega (arith, decimal_nonempty m fits, ap length e)
-
 -- ---- the lines of numbers
 
 pub numbers-alone : Alone NumberLine

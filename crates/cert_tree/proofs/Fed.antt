@@ -1,13 +1,10 @@
 -- Claims that were judged are certified just where in the end none was refused and no node is owed
 -- (`are_certified`, `are_none`).
-use Rattle.std.specs.Prelude.{◌≡◌, ◌⊎◌, ◌<◌, List, [], ◌∷◌, ◌++◌, Option, Some, None, is_some, true, false, length, reverse, refl}
-use Rattle.std.proofs.Common.{arith, inl, inr, ap, sym, ◌∙◌, subst}
-use Rattle.std.proofs.lemmas.List.{length-reverse, nil_from_length}
+use Rattle.std.specs.Prelude.{◌≡◌, ◌⊎◌, List, [], ◌∷◌, ◌++◌, Some, None, refl}
+use Rattle.std.proofs.Common.{inl, inr, ap, sym, ◌∙◌, subst}
 use Rattle.cert_tree.specs.Trees.{IsCertified, IsCertifiedFrom, Tree, owed_by}
 use Rattle.cert_tree.specs.Judgings.{AreFed, IsFault, Refuses, Standing, Takes, TakesOf, begun_at}
-use Rattle.cert_tree.specs.Walks.{Ways, owed_at}
 use Rattle.cert_tree.specs.declared.judging.Refusal.{Refusal}
-use Rattle.cert_tree.specs.declared.walk.Level.{Level}
 
 pub some_none : (refused : Refusal) → Some refused ≡ None → ⊥
 some_none refused e = cc
@@ -92,27 +89,3 @@ module _ {X C : Type 0} (tree : Tree X C) where
       undone done.unrefused done.none
 
 -- ---- what a walk owes
-
-pub owes_by_root : {X K : Type 0} (ways : Ways X) (levels : List (Level K)) (root : Option K) → is_some root ≡ true
-    → owed_at ways levels root ≡ [] → ⊥
-owes_by_root ways [] None h e = cc
-owes_by_root ways [] (Some k) h e = cc
-owes_by_root ways (level ∷ older) root h e = cc
-
-owes_by_first : {X K : Type 0} (ways : Ways X) (levels : List (Level K)) (root : Option K) → 0 < length levels
-    → owed_at ways levels root ≡ [] → ⊥
-owes_by_first ways [] root h e = absurd (omega (arith, h))
-owes_by_first ways (level ∷ older) root h e = cc
-
-pub owes_by_levels : {X K : Type 0} (ways : Ways X) (items : List (Level K)) (root : Option K) → 0 < length items
-    → owed_at ways (reverse items) root ≡ [] → ⊥
-owes_by_levels ways items root h e = owes_by_first ways (reverse items) root (omega (arith, h, length-reverse items)) e
-
-nothing_owed : {X K : Type 0} (ways : Ways X) (root : Option K) → is_some root ≡ false → owed_at ways [] root ≡ []
-nothing_owed ways None h = refl
-nothing_owed ways (Some k) h = cc
-
-pub owes_nothing : {X K : Type 0} (ways : Ways X) (items : List (Level K)) (root : Option K) → length items ≡ 0
-    → is_some root ≡ false → owed_at ways (reverse items) root ≡ []
-owes_nothing ways items root none h =
-    ap (λ ls. owed_at ways (reverse ls) root) (nil_from_length items none) ∙ nothing_owed ways root h

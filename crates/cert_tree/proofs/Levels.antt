@@ -1,10 +1,9 @@
--- Levels: what is owed where one is added (`owed-entered`), and what one is that was taken away
--- (`level_parts`).
+-- Levels: what one is that was taken away (`level_parts`).
 use Rattle.std.specs.Prelude.{◌≡◌, ℕ, ◌+◌, ◌-◌, ◌<◌, Bool, List, [], ◌∷◌, ◌++◌, Option, length, reverse, slice_index_or, slice_set, refl, if◌then◌else◌}
 use Rattle.std.proofs.Common.{arith, ap, sym, ◌∙◌, subst}
 use Rattle.std.proofs.lemmas.List.{length-append, length-reverse, reverse-append}
 use Rattle.cert_tree.specs.Trees.{Tree, owed_by}
-use Rattle.cert_tree.specs.Walks.{AreLevels, AreWays, IsFirstFrom, IsLevel, IsOpen, Ways, node_at, owed_at, owed_later, steps_of}
+use Rattle.cert_tree.specs.Walks.{AreLevels, AreWays, IsLevel, IsOpen, Ways, node_at, owed_at, owed_later, steps_of}
 use Rattle.cert_tree.specs.declared.walk.Level.{Level}
 
 -- as many steps lead to the node as there are levels
@@ -37,13 +36,6 @@ level_parts tree IsOf ways old new level e are =
 pub reverse-level : {K : Type 0} (old new : List (Level K)) (level : Level K) → new ≡ old ++ level ∷ []
     → reverse new ≡ level ∷ reverse old
 reverse-level old new level e = ap reverse e ∙ reverse-append old (level ∷ [])
-
-pub owed-entered : {X K : Type 0} (ways : Ways X) (older new : List (Level K)) (level : Level K) (from : ℕ)
-    → new ≡ level ∷ older → IsFirstFrom ways (node_at ways older) from level.number
-    → node_at ways new ∷ owed_later ways new ≡ ways.longer_from (node_at ways older) from ++ owed_later ways older
-owed-entered ways older new level from e next =
-    ap (λ levels. node_at ways levels ∷ owed_later ways levels) e
-    ∙ ap (λ ps. ps ++ owed_later ways older) (sym next.rest)
 
 -- where there is no level, nothing is owed later
 pub none_later : {X K : Type 0} (ways : Ways X) (levels : List (Level K)) → levels ≡ [] → owed_later ways (reverse levels) ≡ []

@@ -1,7 +1,7 @@
 -- The entries that are still to come where a writer stands (`from_place`, `from_empty`,
 -- `here_first`), what the tables say of them (`start_is`, `rest_is`), and the lines that come next
 -- (`start_next`, `column_next`).
-use Rattle.std.proofs.Common.{◌≡◌, ℕ, suc, ◌+◌, ◌-◌, ◌<◌, ◌≤◌, List, [], ◌∷◌, ◌++◌, Option, drop, length, sym, ap, ◌∙◌, subst, arith, append_assoc, length-append, add-one}
+use Rattle.std.proofs.Common.{◌≡◌, ℕ, suc, ◌+◌, ◌-◌, ◌<◌, ◌≤◌, List, [], ◌∷◌, ◌++◌, Option, drop, length, sym, ap, ◌∙◌, subst, arith, append_assoc, add-one}
 use Rattle.std.specs.List.{flat_map}
 use Rattle.std.proofs.Math.Seq.{drop-cons}
 use Rattle.std.proofs.lemmas.List.{drop_all, get_or-map, length-map, nil_from_length}
@@ -12,7 +12,7 @@ use Rattle.cert_law.specs.Entries.{menu_column}
 use Rattle.cert_law.specs.Rests.{entries_at, entries_from, entries_of, rest_behind, stating}
 use Rattle.cert_text.specs.declared.potential.Potential.{Potential}
 use Rattle.cert_text.specs.declared.potential.Potential.TheVariants.{NoChain}
-use Rattle.cert_text.specs.Potentials.{IsPotential, last_line, potential_line, potential_word}
+use Rattle.cert_text.specs.Potentials.{IsPotential, last_line, potential_line}
 use Rattle.cert_writer.specs.declared.lines.Stage.{Stage}
 use Rattle.cert_writer.specs.declared.lines.Stage.TheVariants.{Start, Column}
 use Rattle.cert_writer.specs.Stages.{entries_left, last_left, stage_text}
@@ -101,12 +101,6 @@ entry_next entries left entry line last e is end =
     ∙ append_assoc (potential_line entry) (flat_map potential_line left) last_line
     ∙ ap (λ bs. bs ++ (flat_map potential_line left ++ last_line)) (sym is)
     ∙ ap (λ bs. line ++ (flat_map potential_line left ++ bs)) (sym end)
-
-pub entry_some : (entry : Potential) (line : List ℕ) → line ≡ potential_line entry → 0 < length line
-entry_some entry line is =
-    let size : length line ≡ length (potential_word entry) + 1
-    = ap length is ∙ length-append (potential_word entry) (10 ∷ []) in
-    omega (arith, size)
 
 module _ (t : Matter) (old next : Stage) (entry : Potential) (line : List ℕ) (wrote : line ≡ potential_line entry)
     (last : last_left next ≡ last_line) where

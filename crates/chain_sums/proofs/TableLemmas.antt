@@ -1,5 +1,4 @@
--- Tables grow by a row at a time (`rows_more`), over menus that keep their numbers (`rows_kept`). A
--- menu may be one that is kept (`number_of_other`), and a row may be the one before over again
+-- Tables grow by a row at a time (`rows_more`), over menus that keep their numbers. A menu may be one that is kept (`number_of_other`), and a row may be the one before over again
 -- (`row_of_other`), which may be known before it is computed (`same_row`).
 use Rattle.std.proofs.Common.{◌≡◌, ◌⊎◌, inl, inr, ℕ, ◌+◌, ◌-◌, ◌*◌, ◌^◌, ◌<◌, ◌≤◌, List, [], ◌∷◌, ◌++◌, length, get_or, suc, Option, Some, None, refl, ap, sym, ◌∙◌, subst, arith}
 use Rattle.std.proofs.lemmas.List.{get_or_append_left, get_or_default, get_or_push, length_push}
@@ -17,7 +16,7 @@ use Rattle.chain_sums.specs.Chains.{AreFull, Chains, IsLeast}
 use Rattle.chain_sums.specs.Menus.{HaveSameColumns, IsMenuOf, IsPacked, columns_of}
 use Rattle.chain_sums.specs.Rows.{AllAtMost, IsAtMost, IsRow}
 use Rattle.chain_sums.specs.Still.{GoesOnFreely}
-use Rattle.chain_sums.specs.Tables.{AreRows, AreSameRows, HaveRowAt, AreTablesOf, IsNumberFor, IsNumbered, IsRowAt, IsRowNumberOf, KeepNumbers}
+use Rattle.chain_sums.specs.Tables.{AreRows, AreSameRows, HaveRowAt, AreTablesOf, IsNumberFor, IsNumbered, IsRowAt, IsRowNumberOf}
 use Rattle.chain_sums.proofs.LeastLemmas.{below_or_at, length-columns, same_value}
 use Rattle.chain_sums.proofs.StillLemmas.{row_goes_on}
 
@@ -48,26 +47,6 @@ number_of_last menus menu number e voices are is = record {
         → IsPacked voices (get_or (menus ++ menu ∷ []) k d)
     packed k d (inl h) = subst (IsPacked voices) (sym (get_or_append_left menus (menu ∷ []) d k h)) (are k d h)
     packed k d (inr f) = subst (IsPacked voices) (sym (get_or_push menus menu d k (sym f))) is
-
-row_kept : (c : Chains) (i : ℕ) (menus more : List Menu) (row : Row) → KeepNumbers menus more → IsRowAt c i menus row
-    → IsRowAt c i more row
-row_kept c i menus more row keep at = record {
-  named = omega (arith, keep.longer, at.named);
-  menu = λ d. subst (λ (m : Menu). IsMenuOf (c.menu i) m) (sym (keep.same row.menu d at.named)) (at.menu d);
-  sums = at.sums;
-  small = at.small;
-}
-
--- so are all rows kept
-pub rows_kept : (c : Chains) (menus more : List Menu) (rows : List Row) (places : List ℕ) → KeepNumbers menus more
-    → All (IsPacked c.voices) more → AreRows c menus rows places → AreRows c more rows places
-rows_kept c menus more rows places keep packed are = record {
-  few = are.few;
-  packed = packed;
-  named = are.named;
-  at = λ j d h.
-      row_kept c (c.places - 1 - j) menus more (get_or rows (get_or places j 0) d) keep (are.at j d h);
-}
 
 -- a row that is the same as that of a place is one of the place
 row_same : (c : Chains) (i : ℕ) (menus : List Menu) (row other : Row) → AreSameRows other row → IsRowAt c i menus row

@@ -6,20 +6,6 @@ use Rattle.std.proofs.lemmas.Bool.{cases_eq, ne_eqb}
 use Rattle.fux_grid.specs.declared.exercise.Exercise.{Exercise}
 use Rattle.fux_grid.specs.Exercises.{AreSpecies, IsFree, IsSpecies, IsValid, species_in}
 
--- where the species aren't mixed, the species voice has the exercise's, and the others the first
-pub species-unmixed : (ex : Exercise) (v : ℕ) → ex.mixed ≡ None
-    → species_in ex v ≡ (if v == ex.species_voice then ex.species else 1)
-species-unmixed ex v none =
-    ap (λ (o : Option (List ℕ)). option_map_or (λ species. slice_index_or species v 1) o
-    (if v == ex.species_voice then ex.species else 1)) none
-
--- where they are, each voice has its own
-pub species-mixed : (ex : Exercise) (v : ℕ) (species : List ℕ) → ex.mixed ≡ Some species
-    → species_in ex v ≡ slice_index_or species v 1
-species-mixed ex v species some =
-    ap (λ (o : Option (List ℕ)). option_map_or (λ species. slice_index_or species v 1) o
-    (if v == ex.species_voice then ex.species else 1)) some
-
 -- the cantus has the first species
 pub species-cantus : (ex : Exercise) → IsValid ex → species_in ex ex.cantus_voice ≡ 1
 species-cantus ex valid = by ex.mixed valid.mixed

@@ -41,18 +41,6 @@ all_sets = forms.all_sets
 abbrev pub is_of_melody : ℕ → Bool
 is_of_melody = melody.has_rule
 
-abbrev pub is_of_motion : ℕ → Bool
-is_of_motion = motion.has_rule
-
-abbrev pub is_of_dissonance : ℕ → Bool
-is_of_dissonance = dissonance.has_rule
-
-abbrev pub is_of_rhythm : ℕ → Bool
-is_of_rhythm = rhythm.has_rule
-
-abbrev pub is_of_doubling : ℕ → Bool
-is_of_doubling = doubling.has_rule
-
 abbrev pub is_toll_of_motion : ℕ → Bool
 is_toll_of_motion = motion.has_toll
 

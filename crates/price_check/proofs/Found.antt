@@ -18,12 +18,6 @@ use Rattle.priced_paths.specs.declared.pricing.TheConstants.{MOST_CASES}
 use Rattle.priced_paths.specs.Places.{numbers_of}
 use Rattle.priced_paths.specs.declared.web.Web.{Web}
 
--- two facts of what is found give a third
-pub both_weaker : {X Y : Type 0} (r : Result X Y) (P Q S : X → Type 0) → ((x : X) → P x → Q x → S x) → IfOk r P → IfOk r Q
-    → IfOk r S
-both_weaker (Ok x) P Q S so p q = so x p q
-both_weaker (Err y) P Q S so p q = tt
-
 pub each_found : {X : Type 0} (E : Type 0) (R : ℕ → X → Type 0) (indices : List ℕ) (found : List X) (n : ℕ) (own : X)
     → AllZip (λ j (r : Result X E). IfOk r (R j)) indices (map Ok found) → slice_get found n ≡ Some own
     → R (get_or indices n 0) own

@@ -1,9 +1,8 @@
 -- What is told first by lines: by one of them (`told_here`), or by those behind it (`told_later`);
 -- which price is above another (`high_price`, `low_price`); and what keys are (`cases_low`).
-use Rattle.std.proofs.Common.{◌≡◌, ℕ, zero, suc, ◌+◌, ◌<◌, ◌≤◌, ◌-◌, ◌==◌, ◌&&◌, Bool, false, List, [], ◌∷◌, Option, Some, None, arith, drop, get_or, length, length-drop, take, map, option_map, slice_index, refl, ap, subst, sym, ◌∙◌, if◌then◌else◌}
+use Rattle.std.proofs.Common.{◌≡◌, ℕ, zero, suc, ◌+◌, ◌<◌, ◌≤◌, ◌-◌, ◌&&◌, Bool, false, List, [], ◌∷◌, Option, Some, None, arith, drop, get_or, length, length-drop, take, map, option_map, slice_index, refl, ap, subst, sym, ◌∙◌, if◌then◌else◌}
 use Rattle.std.specs.List.{AllByRecursion}
 use Rattle.std.proofs.lemmas.Bool.{lt-ltb, le-ltb}
-use Rattle.std.proofs.lemmas.Bool.Decides.{nat_tests}
 use Rattle.std.proofs.Math.ListN.{drop_of_length-le}
 use Rattle.std.proofs.lemmas.List.{drop_more, take_all}
 use Rattle.price_text.specs.declared.line.PriceLine.{PriceLine}
@@ -110,10 +109,6 @@ keys_behind [] zero all = tt
 keys_behind [] (suc i) all = tt
 keys_behind (line ∷ lines) zero all = all
 keys_behind (line ∷ lines) (suc i) all = keys_behind lines i all.1
-
-pub no_keys : (keys : List ℕ) → (length keys == 0) ≡ has_no_keys keys
-no_keys [] = refl
-no_keys (key ∷ keys) = grind (arith, nat_tests)
 
 pub plain_is : (keys : List ℕ) (b : Bool) → length keys ≡ 0 → b ≡ (has_no_keys keys && b)
 plain_is [] b none = refl

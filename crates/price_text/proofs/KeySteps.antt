@@ -1,24 +1,11 @@
--- Reading keys one by one (`keys-none`, `keys-refused`, `keys-last`, `keys-more`).
+-- Reading keys one by one (`keys-more`).
 use Rattle.text_lines.specs.Faults.{◌>>=◌}
-use Rattle.std.proofs.Common.{◌≡◌, ℕ, zero, suc, ◌+◌, ◌-◌, ◌<◌, Bool, true, false, List, [], ◌∷◌, ◌++◌, length, Option, Some, None, Result, Ok, Err, refl, sym, ap, ◌∙◌, subst, append_assoc, arith}
+use Rattle.std.proofs.Common.{◌≡◌, ℕ, zero, suc, ◌+◌, ◌-◌, ◌<◌, Bool, false, List, [], ◌∷◌, ◌++◌, length, Option, Some, Result, Ok, Err, sym, ap, ◌∙◌, subst, append_assoc, arith}
 use Rattle.std.specs.Option.{ok_or}
 use Rattle.price_text.specs.Laws.{IsKeysRead}
 use Rattle.price_text.specs.Reading.{Word, first_word, key_and_more, key_of, keys_in, said}
 
 -- ---- one word
-
-pub said-none : {A : Type 0} (says : Word → Option A) (bytes : List ℕ) → first_word bytes ≡ None
-    → said says bytes ≡ Err (length bytes)
-unfolding said
-said-none says bytes e =
-    ap (λ o. ok_or o (length bytes) >>= (λ w. ok_or (says w) (length bytes) >>= (λ x. Ok (x, w.rest)))) e
-
-pub said-wrong : {A : Type 0} (says : Word → Option A) (bytes : List ℕ) (w : Word) → first_word bytes ≡ Some w
-    → says w ≡ None → said says bytes ≡ Err (length bytes)
-unfolding said
-said-wrong says bytes w e f =
-    ap (λ o. ok_or o (length bytes) >>= (λ v. ok_or (says v) (length bytes) >>= (λ x. Ok (x, v.rest)))) e
-    ∙ ap (λ o. ok_or o (length bytes) >>= (λ x. Ok (x, w.rest))) f
 
 pub said-right : {A : Type 0} (says : Word → Option A) (bytes : List ℕ) (w : Word) (x : A) → first_word bytes ≡ Some w
     → says w ≡ Some x → said says bytes ≡ Ok (x, w.rest)
@@ -36,11 +23,6 @@ KeyRead = (ℕ × Bool) × List ℕ
 abbrev KeysRead : Type 0
 KeysRead = List ℕ × List ℕ
 
-pub keys-none : (most high : ℕ) (bytes : List ℕ) → most ≡ 0 → keys_in most high bytes ≡ Err (length bytes)
-unfolding keys_in
-keys-none zero high bytes e = refl
-keys-none (suc most) high bytes e = absurd (omega (arith, e))
-
 keys-step : (most high : ℕ) (bytes : List ℕ) → 0 < most
     → keys_in most high bytes
     ≡ (said (key_of high) bytes >>= (λ (key : KeyRead). key_and_more key.0.0 key.0.1 key.1 (keys_in (most - 1) key.0.0)))
@@ -49,18 +31,6 @@ keys-step zero high bytes some = absurd (omega (arith, some))
 keys-step (suc most) high bytes some =
     let fewer : most ≡ suc most - 1 = omega arith in
     ap (λ (m : ℕ). said (key_of high) bytes >>= (λ (key : KeyRead). key_and_more key.0.0 key.0.1 key.1 (keys_in m key.0.0))) fewer
-
-pub keys-refused : (most high : ℕ) (bytes : List ℕ) (left : ℕ) → 0 < most → said (key_of high) bytes ≡ Err left
-    → keys_in most high bytes ≡ Err left
-keys-refused most high bytes left some e =
-    keys-step most high bytes some
-    ∙ ap (λ (r : Result KeyRead ℕ). r >>= (λ (key : KeyRead). key_and_more key.0.0 key.0.1 key.1 (keys_in (most - 1) key.0.0))) e
-
-pub keys-last : (most high key : ℕ) (bytes rest : List ℕ) → 0 < most
-    → said (key_of high) bytes ≡ Ok ((key, true), rest) → keys_in most high bytes ≡ Ok (key ∷ [], rest)
-keys-last most high key bytes rest some e =
-    keys-step most high bytes some
-    ∙ ap (λ (r : Result KeyRead ℕ). r >>= (λ (key : KeyRead). key_and_more key.0.0 key.0.1 key.1 (keys_in (most - 1) key.0.0))) e
 
 keys-next : (most high key : ℕ) (bytes rest : List ℕ) → 0 < most
     → said (key_of high) bytes ≡ Ok ((key, false), rest)

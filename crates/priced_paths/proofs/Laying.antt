@@ -23,10 +23,6 @@ use Rattle.priced_paths.proofs.Listing.{get_back, pair_at, some_same}
 
 -- ---- one edge
 
-pub edge_none : {K : Type 0} (states : List (State K)) (at depth : ℕ) (step : Option (K × ℕ)) → step ≡ None
-    → IsEdgeTo states at depth None step
-edge_none states at depth step e = subst (IsEdgeTo states at depth None) (sym e) tt
-
 module _ {K : Type 0} {start : K} {height : ℕ} {breadth : ℕ → ℕ} {step : ℕ → K → ℕ → Option (K × ℕ)}
     (states : List (State K)) (all : AreAllStates start height breadth step states) (at : ℕ) (state : State K)
     (here : slice_get states at ≡ Some state) (label : ℕ) (above : state.depth < height)

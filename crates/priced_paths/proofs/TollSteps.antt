@@ -3,10 +3,6 @@
 use Rattle.std.proofs.Common.{◌≡◌, ℕ, ◌+◌, ◌||◌, suc, List, [], ◌∷◌, ◌++◌, length, Option, Some, None, Bool, true, false, refl, sym, ap, ◌∙◌, arith}
 use Rattle.priced_paths.specs.Tolls.{sum_of, charged_from, has_reached_from}
 
-sum_of-none : (one : Option ℕ) → sum_of one None ≡ None
-sum_of-none None = refl
-sum_of-none (Some x) = refl
-
 sum_of-zero : (one : Option ℕ) → sum_of one (Some 0) ≡ one
 sum_of-zero None = refl
 sum_of-zero (Some x) = let e : x + 0 ≡ x = omega arith in ap (λ n. Some n) e

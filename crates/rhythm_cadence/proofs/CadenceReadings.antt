@@ -1,9 +1,9 @@
 -- A voice shows its cadence by its cells in the bar before (`voice_reading`).
-use Rattle.std.specs.Prelude.{◌≡◌, ℕ, zero, suc, ◌+◌, ◌-◌, ◌/◌, ◌<◌, ◌≤◌, ◌==◌, Bool, true, false, ◌&&◌, IsTrue, List, [], ◌∷◌, ◌++◌, Option, Some, None, if◌then◌else◌, length, reverse, slice_index_or, take, refl}
+use Rattle.std.specs.Prelude.{◌≡◌, ℕ, zero, suc, ◌+◌, ◌-◌, ◌<◌, ◌≤◌, ◌==◌, Bool, true, false, ◌&&◌, IsTrue, List, [], ◌∷◌, ◌++◌, Option, Some, None, if◌then◌else◌, length, reverse, slice_index_or, take, refl}
 use Rattle.std.specs.List.{list_all}
 use Rattle.std.proofs.Common.{ap, sym, ◌∙◌, arith}
 use Rattle.std.proofs.Math.ListN.{get_or-append}
-use Rattle.std.proofs.lemmas.Bool.{and_parts, eq-eqb, eqb-true, ne_eqb}
+use Rattle.std.proofs.lemmas.Bool.{eq-eqb, ne_eqb}
 use Rattle.std.proofs.lemmas.List.{length-map, take-append-le}
 use Rattle.fux_pitch.specs.declared.pitch.Pitch.{Pitch}
 use Rattle.fux_grid.specs.declared.cell.Cell.{Cell}
@@ -12,12 +12,11 @@ use Rattle.fux_grid.specs.declared.cell.Note.{Note}
 use Rattle.fux_grid.specs.declared.exercise.Exercise.{Exercise}
 use Rattle.fux_grid.specs.Cells.{cell_follows, cell_in, first_of, is_hold, newest, notes_from, pitch_of}
 use Rattle.fux_grid.specs.Columns.{HistoryFollows, cell_at, earlier, line, newest_column}
-use Rattle.fux_grid.specs.Exercises.{IsValid, species_in}
+use Rattle.fux_grid.specs.Exercises.{species_in}
 use Rattle.fux_grid.proofs.Histories.{get_or-earlier, line-more}
 use Rattle.rule_law.proofs.AroundLemmas.{length-earlier}
 use Rattle.rule_law.proofs.AtOnce.{among_own, newly_breaks-there}
 use Rattle.rule_law.specs.Degrees.{lies_above}
-use Rattle.rule_law.specs.Bars.{begins_bar}
 use Rattle.rule_law.specs.Leading.{is_leading}
 use Rattle.rule_law.specs.Nearby.{LineFollows, line_follows}
 use Rattle.rule_law.specs.Places.{reading_of}
@@ -194,12 +193,6 @@ module _ (ex : Exercise) (s : List (List Cell)) (i : ℕ) (follows : HistoryFoll
       (λ lead. holds_suspension ex (slice_index_or (earlier s i) 7 []) lead v) (sounding_note v (earlier s i))
       (held_pitch (7 - leading_slot (species_in ex v)) (bar_behind s v i)) (lead_found v (species_in ex v))
       ∙ ap (λ start. ends_well ex start (bar_behind s v i) now v) eighth
-
-pub last_bar_far : (ex : Exercise) (i : ℕ) → IsValid ex → begins_last_bar ex i ≡ true → 8 ≤ i
-last_bar_far ex i valid e =
-    let parts = and_parts (begins_bar i) (i / 8 + 1 == ex.bars) e in
-    let last : i / 8 + 1 ≡ ex.bars = eqb-true (i / 8 + 1) ex.bars parts.1 in
-    omega (arith, last, valid.fewest_bars)
 
 -- at its place among the newest columns it is settled at once
 pub cadence_settles : (ex : Exercise) (voices : ℕ) (p : List (List Cell)) (col : List Cell) (i : ℕ)

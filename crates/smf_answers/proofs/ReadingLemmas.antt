@@ -26,10 +26,6 @@ reads Is (Ok score) read h is = subst Is h is
 reads Is (Err (Smf faults.Memory)) read h is = tt
 reads Is (Err e) read h is = subst Is h is
 
-pub reads_err : (Is : Result Grid JoinFault → Type 0) (e : JoinFault) → Is (Err e) → ReadsAs (Err e) Is
-reads_err Is (Smf faults.Memory) is = tt
-reads_err Is e is = is
-
 pub reads_fault : {X : Type 0} (Is : Result Grid JoinFault → Type 0) (fault : SmfFault) (read : Result X SmfFault)
     → scores.Fails fault read → (read ≡ Err fault → Is (Err (Smf fault))) → ReadsAs (Err (Smf fault)) Is
 reads_fault Is faults.Memory read h so = tt

@@ -1,5 +1,4 @@
 pub mod FaultLines
-pub mod LineLoops
 pub mod RangeLemmas
 pub mod Rows
 pub mod Told

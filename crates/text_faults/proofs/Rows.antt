@@ -1,6 +1,6 @@
 -- The lines of a text by their numbers, rows of spaces, one after the other, as a loop does; and
 -- how many columns bytes take.
-use Rattle.std.proofs.Common.{◌≡◌, ℕ, suc, ◌+◌, ◌-◌, ◌<◌, ◌≤◌, Bool, true, false, List, ◌∷◌, length, replicate, refl, arith}
+use Rattle.std.proofs.Common.{◌≡◌, ℕ, suc, ◌+◌, ◌-◌, ◌<◌, Bool, true, false, List, ◌∷◌, length, replicate, refl, arith}
 use Rattle.std.specs.Prelude.{chars}
 use Rattle.std.specs.List.{after_first}
 use Rattle.std.specs.Str.{IsUtf8, is_utf8}
@@ -13,12 +13,6 @@ pub feeds-next : (a b : ℕ) (text : List ℕ) → a < b
     → behind_feeds (b - a) text ≡ behind_feeds (b - (a + 1)) (after_first is_feed text)
 feeds-next a b text h =
     let k : b - a ≡ suc (b - (a + 1)) = omega arith in
-    rw k refl
-
--- no more
-pub feeds-all : (a b : ℕ) (text : List ℕ) → b ≤ a → behind_feeds (b - a) text ≡ text
-feeds-all a b text h =
-    let k : b - a ≡ 0 = omega arith in
     rw k refl
 
 -- the spaces that are left

@@ -10,7 +10,7 @@ use Rattle.text_lines.specs.Tables.{Format, IsTable, IsTextFault, table_in, text
 use Rattle.text_lines.specs.Utf8.{begun_text, fault_behind, fault_of_utf8, text_in}
 use Rattle.text_lines.proofs.Faulty.{text_in-ok, text_in-utf8}
 use Rattle.text_lines.proofs.Fronts.{longest_front, one_front}
-use Rattle.text_lines.proofs.TableLemmas.{table-fails, table-gives, table-right, table-wrong}
+use Rattle.text_lines.proofs.TableLemmas.{table-fails, table-right, table-wrong}
 
 -- what the lines say alone
 abbrev value : {K R : Type 0} → Result (R × TextLines) (Fault K) → Result R (Fault K)
@@ -91,9 +91,3 @@ text-right format bytes x e = by (nat_lt 65536 (length bytes)) refl (is_utf8 byt
           lines = table-right format.lines (lines_in bytes) x found.0 found.1;
         }
     by false l false u e = absurd (grind (arith, e))
-
-pub text-gives : {K R : Type 0} (format : Format K R) (bytes : List ℕ) (x : R) (rest : TextLines) → length bytes ≤ 65536
-    → IsUtf8 bytes → IsTable format.lines (lines_in bytes) x rest → text_read format bytes ≡ Ok x
-unfolding text_read
-text-gives format bytes x rest short utf8 h =
-    rw (text_in-ok format.too_long format.not_utf8 bytes short utf8, table-gives format.lines (lines_in bytes) x rest h) refl

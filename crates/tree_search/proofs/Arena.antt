@@ -55,10 +55,6 @@ path_by_link links i d linked some within =
     paths_from-link links ([] ∷ []) (i - 1) i d (omega arith) (omega arith)
     (omega (arith, linked (i - 1) d (omega arith)))
 
--- the root's path
-pub path_in-root : (links : List Link) → path_in links 0 ≡ []
-path_in-root links = paths_from-known links ([] ∷ []) 0 (omega arith)
-
 -- the earlier entries, after one link more
 pub path_in-earlier : (links : List Link) (l : Link) (i : ℕ) → i ≤ length links
     → path_in (links ++ l ∷ []) i ≡ path_in links i

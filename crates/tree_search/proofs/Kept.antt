@@ -1,14 +1,14 @@
 -- The leaves that a search keeps: their order (`Precedes-other`, `last_of_bound`), that none stands
 -- twice (`paths_differ`), and what a leaf more makes of them (`taken_met`, `taken_once`,
--- `taken_covers`, `taken_keeps`). What the heap of them tells (`let_go`, `all_lower`).
-use Rattle.std.proofs.Common.{◌≡◌, ◌≢◌, ℕ, ◌+◌, ◌<◌, ◌≤◌, ◌⊎◌, inl, inr, ⊎_elim, List, [], ◌∷◌, length, map, get_or, Option, Some, None, IfSome, IfNone, Vec, Global, All, Contains, IsPermutation, Ordering, Less, Equal, is_lt, nat_cmp, true, true≢false, zero, suc, refl, sym, ap, subst, subst₂, ◌∙◌, arith}
+-- `taken_covers`, `taken_keeps`). What the heap of them tells (`let_go`).
+use Rattle.std.proofs.Common.{◌≡◌, ◌≢◌, ℕ, ◌+◌, ◌<◌, ◌≤◌, ◌⊎◌, inl, inr, ⊎_elim, List, [], ◌∷◌, length, map, get_or, Option, Some, None, IfSome, IfNone, All, Contains, IsPermutation, Less, Equal, is_lt, nat_cmp, true, true≢false, zero, suc, refl, sym, ap, subst, subst₂, ◌∙◌, arith}
 use Rattle.std.specs.BinaryHeap.{IsHeap, IsUpperBound}
 use Rattle.std.specs.Cmp.{nat_cmp_is}
 use Rattle.std.specs.Cmp.Lexicographic.{slice_cmp}
 use Rattle.std.specs.Ordering.{ordering_then}
 use Rattle.std.proofs.lemmas.Bool.{cases_lt, cases_eq}
 use Rattle.std.proofs.lemmas.List.Elements.{All-nil, All-cons, All-head, All-tail, All-map, All-contains, Contains-get_or, recursion_from_All}
-use Rattle.std.proofs.lemmas.List.Sorted.{All-permutation, Contains-permutation, IsPermutation-map, IsPermutation-sym, IsPermutation-trans, first_le_from_greatest, length_permutation}
+use Rattle.std.proofs.lemmas.List.Sorted.{All-permutation, Contains-permutation, IsPermutation-map, IsPermutation-sym, IsPermutation-trans, length_permutation}
 use Rattle.tree_search.specs.Answer.{AllDiffer, IsBefore}
 use Rattle.tree_search.specs.Walks.{IsAmong}
 use Rattle.tree_search.specs.Nth.{Precedes}
@@ -295,11 +295,3 @@ let_go most size old mid new leaf (Some x) few sized more pushed heap none moved
     last_of = last_of_bound x new (bound heap);
   };
 }
-
--- where the last is lower, all are
-pub all_lower : (floor : ℕ) (last : Leaf) (leaves : List Leaf) → IsUpperBound leaf_cmp last leaves → last.0 < floor
-    → All (λ leaf. leaf.0 < floor) leaves
-all_lower floor last leaves bound less k d inside =
-    let R : Vec ℕ Global × ℕ → Vec ℕ Global × ℕ → Ordering =
-    λ a b. ordering_then (slice_cmp nat_cmp a.0.items b.0.items) (nat_cmp a.1 b.1) in
-    omega (arith, less, first_le_from_greatest R last leaves bound k d inside)

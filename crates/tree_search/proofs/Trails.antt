@@ -1,7 +1,7 @@
 -- A trail goes on by one node.
-use Rattle.std.proofs.Common.{◌≡◌, ℕ, ◌+◌, ◌<◌, ◌≤◌, ◌-◌, ⊎_elim, List, [], ◌∷◌, ◌++◌, length, take, drop, set, get_or, Option, Some, None, IsSome, is_some, refl, sym, ap, subst, ◌∙◌, arith, length-set}
+use Rattle.std.proofs.Common.{◌≡◌, ℕ, ◌+◌, ◌<◌, ◌≤◌, ◌-◌, ⊎_elim, List, [], ◌∷◌, ◌++◌, length, take, set, get_or, Option, Some, None, IsSome, is_some, refl, sym, ap, subst, ◌∙◌, arith, length-set}
 use Rattle.std.proofs.lemmas.Bool.{cases_lt}
-use Rattle.std.proofs.lemmas.List.{take-set-le, take_more_set, take_more, take-append-drop, length-take, length_push, get_or-set_same, get_or-set_other}
+use Rattle.std.proofs.lemmas.List.{take-set-le, take_more_set, length-take, length_push, get_or-set_same, get_or-set_other}
 use Rattle.tree_search.specs.Space.{FloorsGrow, HasChild, HasLiveChild}
 use Rattle.tree_search.specs.Trails.{AreEntriesOf, AreKept, HasPlaces, IsEntryOf, IsKept, IsPut, IsTrail, IsTrailTo, Leads, node_in}
 use Rattle.tree_search.specs.declared.trail.Nodes.{Nodes}
@@ -9,7 +9,6 @@ use Rattle.tree_search.specs.declared.trail.Trail.{Trail}
 use Rattle.tree_search.specs.declared.links.Link.{Link}
 use Rattle.tree_search.specs.Links.{path_in, IsLinked}
 use Rattle.tree_search.proofs.Arena.{path_in-earlier, path_in-last, path_by_link}
-use Rattle.tree_search.proofs.Floors.{start_live}
 
 pub some_of : (o : Option ℕ) → IsSome o → (x : ℕ) × (o ≡ Some x)
 some_of None e = cc
@@ -56,16 +55,6 @@ IsTrail-step {N} is_at height path nodes nodes' level k above trail kept at = re
       (sym (take_more_set path level k (omega (arith, trail.path_long)))) (at d)))
       (cases_lt j (level + 1));
 }
-
--- a beginning of a live path is live
-pub live_to : {live : List ℕ → Option ℕ} {width : List ℕ → ℕ} {height : ℕ} → FloorsGrow live width height
-    → (path : List ℕ) (level : ℕ) → level < length path → IsSome (live path) →
-    IsSome (live (take level path ++ get_or path level 0 ∷ []))
-live_to {live} grows path level within is =
-    let floor = some_of (live path) is in
-    let own = start_live grows (take (level + 1) path) path floor.0 floor.1
-    (drop (level + 1) path, sym (take-append-drop (level + 1) path)) in
-    ap is_some (ap live (sym (take_more path level 0 within)) ∙ own.1)
 
 -- the parent of a live entry is live
 pub parent_live : {live : List ℕ → Option ℕ} {width : List ℕ → ℕ} {height : ℕ} → FloorsGrow live width height

@@ -1,6 +1,5 @@
 -- What `explain` makes of the text of an exercise (`explains_exercise`), with the species that are
--- named (`explains_named`, `refuses_names`), and of a text at fault (`faults_told`,
--- `explains_faults`).
+-- named (`explains_named`, `refuses_names`), and of a text at fault (`faults_told`).
 use Rattle.std.proofs.Common.{◌≡◌, ℕ, Bool, true, false, List, [], ◌∷◌, Option, Result, Ok, Err, length, inl, inr, refl, subst}
 use Rattle.std.specs.Str.{is_utf8}
 use Rattle.std.specs.Prelude.{nat_lt, if◌then◌else◌}
@@ -28,12 +27,6 @@ explains_exercise subject name bytes ex (Ok output) text made = inl (record { ex
 explains_exercise subject name bytes ex (Err (stop.Refused refusal)) text made =
     inl (record { exercise = ex; text = text; made = made })
 explains_exercise subject name bytes ex (Err stop.Memory) text made = tt
-
-pub explains_faults : (subject : Subject) (name bytes : List ℕ) (answer : Result Output Stop)
-    → Answers (ExplainsFaults name bytes) answer → Answers (Explains subject name bytes) answer
-explains_faults subject name bytes (Ok output) made = inr made
-explains_faults subject name bytes (Err (stop.Refused refusal)) made = inr made
-explains_faults subject name bytes (Err stop.Memory) made = tt
 
 -- ---- with named species
 
