@@ -7,19 +7,13 @@
 #[cfg(test)]
 mod agree;
 #[cfg(test)]
-mod chains;
-#[cfg(test)]
 mod chords;
-#[cfg(test)]
-mod counting;
 #[cfg(test)]
 mod floors;
 #[cfg(test)]
 mod found;
 #[cfg(test)]
 mod four_voices;
-#[cfg(test)]
-mod leaps;
 #[cfg(test)]
 mod lines;
 #[cfg(test)]
