@@ -2,11 +2,10 @@
 
 ghost use Rattle.std.specs.Prelude.{pos, negsuc, ◌≤ℤ◌, ◌<◌};
 
-use crate::menus::is_shared;
 use crate::tables::{number, word};
 use fux_pitch::{
-    AnyList, Interval, Label, List, Memory, Mode, Pitch, final_letter, in_gamut, interval_of,
-    is_consonant, is_imperfect, is_perfect, leading, name, parse_pitch, reduce, semitone, spell,
+    Interval, Mode, Pitch, final_letter, in_gamut, interval_of, is_consonant, is_imperfect,
+    is_perfect, leading, name, parse_pitch, reduce, semitone, spell,
 };
 use short_scores::{mode_of, pitch_of};
 use std::alloc::Global;
@@ -287,40 +286,4 @@ fn common_gamut(alloc: Global, mode: Mode, first: u8, last: u8) -> Result<String
 pub fn gamut_of(alloc: Global, case: &str) -> Result<String, Fail> {
     let mode = mode_of(word(case, 0)?)?;
     common_gamut(alloc, mode, number(case, 4)?, number(case, 6)?)
-}
-
-/// One item, or the answer for want of memory, whichever of its two forms std gives.
-fn list_of(alloc: Global) -> Result<Vec<u8>, Memory> {
-    let mut items = Vec::with_capacity(alloc, 1)?;
-    items.push(7)?;
-    Ok(items)
-}
-
-/// Whether a list holds what it is made of, as it is and lent.
-fn lists_hold(alloc: Global) -> Result<bool, Memory> {
-    let list = List::new(list_of(alloc)?);
-    is_shared(&list);
-    let owned = AnyList::new(list_of(alloc)?);
-    is_shared(&owned);
-    let lent = owned.lend();
-    is_shared(&lent);
-    let wanted = [7].as_slice();
-    Ok(list.as_slice() == wanted && owned.as_slice() == wanted && lent.as_slice() == wanted)
-}
-
-/// Whether a label holds what it is made of.
-fn labels_hold(alloc: Global) -> Result<bool, Memory> {
-    let label = Label::new(String::from_str(alloc, "C4")?);
-    is_shared(&label);
-    Ok(label.as_str() == "C4")
-}
-
-/// Threads may share the values.
-#[test]
-fn lists_and_labels_hold_what_they_are_made_of(rt: HostRuntime) -> Result<(), Fail> {
-    assert!(rt; lists_hold(rt.alloc())? && labels_hold(rt.alloc())?);
-    is_shared(&spell(60));
-    is_shared(&interval_of(pitch_of("C4")?, pitch_of("D4")?));
-    is_shared(&Mode::Dorian);
-    Ok(())
 }
