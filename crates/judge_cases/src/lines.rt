@@ -1,113 +1,1260 @@
-//! Lines of one note a column, worked out by hand.
+//! Cases of the rules and tolls of melody, worked out by hand: lines of one note a column, which four
+//! voices sing, or one of them alone, and what stands at their last note. The cantus breaks nothing,
+//! and S5 stands for the voice of the second species alone.
 
-use crate::agree::agree;
-use crate::found::add_found;
-use fux_grid::Score;
-use short_scores::{exercise_of, score_of};
-use std::alloc::Global;
-use std::fmt::Write;
-use std::process::Abort;
-use std::test::Fail;
+pub const CASES: &str = "\
+last S4
+dorian 2 1 0
+cantus D4 E4 D4
+F4 B4:1
+F4 B4:1
+F4 B4:1
+F4 B4:1
+=
+S4 1 2
+S4 1 4
+S4 1 8
 
-/// Four voices over three bars: the cantus in voice 0, and the second species in voice 1.
-const EXERCISE: &str = "dorian 2 1 0
-cantus D4 E4 D4";
+last S4
+dorian 2 1 0
+cantus D4 E4 D4
+F4 B4:1
+r:2
+r:2
+r:2
+=
 
-/// Lines whose last note breaks the rule, or costs the toll.
-const BROKEN: &str = "S4: F4 B4, B3 F4, C5 E4, C4 A4, C4 B4, C4 D5, F4 F#4, B#3 C4, E#4 Fb4
-S5: D4 D4
-S26: C#4 E4, C#4 C#4, C#4 B3
-S6: C4 F4 B4, D4 G4 C5, C4 G4 D5, C4 G4 E5, F4 D4 B3
-S7: E4 C5 D5, E4 C5 C5, E4 C5 B#4, C5 C4 B3
-S8: A4 F4 G4 B4 A4, G4 B4 F4 G4
-S9: C4 F5, F5 C4, E5 C4 B3, C4 D5 E5 F5, D4 F5 B3, D5 F4 B5
-Q7: D4 D4
-Q8: D4 F4, E4 C4
-Q9: D4 G4, A4 D4, F4 B4
-Q10: D4 B4, C5 C4, C4 D5
-Q13: D4 G4 A4, D4 G4 G4, D4 G4 E4, G4 D4 C4, E4 C5 B#4";
+last S4
+dorian 2 1 0
+cantus D4 E4 D4
+r:2
+r:2
+r:2
+F4 B4:1
+=
+S4 1 8
 
-/// Lines whose last note doesn't.
-const KEPT: &str = "S4: B4, D4 D4, E4 F4, E4 D4, D4 F4, E4 C4, G4 D4, F4 C4, E4 C5, C4 C5, C5 C4
-S5: D4, D4 E4, F4 F#4, B#3 C4
-S26: C#4, C#4 D4, C#4 Db4, C4 E4, Db4 D4
-S6: C4 F4, C4 F4 A4, C4 G4 C5, G4 E4 C4, C4 A4 B4, E4 F4 B4, C5 D4 B4
-S7: E4 C5, E4 C5 B4, E4 C5 E4, E4 B4 C5, C5 C4 D4
-S8: F4 G4 B4 A4, A4 F4 G4 B4, A4 F4 G4 B4 C5, A4 F4 G4 C5 A4, A4 F4 F4 B4 A4, A4 F4 C5 G4 B4 A4, A4 F4 B5 A5
-S9: C4, C4 E5, C4 F5 C4, C4 F5 A5, C#4 D5 F5, C4 D5 E5 D5, C5 D5 B5
-Q7: D4, F4 F#4, B#3 C4
-Q8: D4 E4, D4 G4
-Q9: D4 F4, D4 B4
-Q10: A4 D4
-Q13: D4 G4, D4 G4 F4, D4 F4 G4, G4 D4 E4, D4 G4 F4 E4";
+last S4
+dorian 2 1 0
+cantus D4 E4 D4
+B3 F4:1
+B3 F4:1
+B3 F4:1
+B3 F4:1
+=
+S4 1 2
+S4 1 4
+S4 1 8
 
-/// The score of a line that one voice sings, or for 4 all do.
-fn sung(alloc: Global, line: &str, v: u8) -> Result<Score, Fail> {
-    let lines = match v {
-        0 => [line, "r", "r", "r"],
-        1 => ["r", line, "r", "r"],
-        2 => ["r", "r", line, "r"],
-        3 => ["r", "r", "r", line],
-        _ => [line; 4],
-    };
-    score_of(alloc, &lines)
-}
+last S4
+dorian 2 1 0
+cantus D4 E4 D4
+C5 E4:1
+C5 E4:1
+C5 E4:1
+C5 E4:1
+=
+S4 1 2
+S4 1 4
+S4 1 8
 
-/// What should stand at the last note, where it breaks what is asked: nothing for the cantus, and
-/// of S5 nothing but for the voice of the second species.
-fn wanted_of(alloc: Global, asked: &str, last: usize, v: u8) -> Result<String, Fail> {
-    let mut wanted = String::new(alloc);
-    if v > 0 && (v == 1 || asked != "S5") {
-        let value = match (asked.starts_with('S'), v) {
-            (true, 1) => 2,
-            (true, 2) => 4,
-            (true, _) => 8,
-            (false, 4) => 3,
-            (false, _) => 1,
-        };
-        write!(wanted, "\n{asked} {last} {value}")?;
-    }
-    Ok(wanted)
-}
+last S4
+dorian 2 1 0
+cantus D4 E4 D4
+C4 A4:1
+C4 A4:1
+C4 A4:1
+C4 A4:1
+=
+S4 1 2
+S4 1 4
+S4 1 8
 
-/// Compares what stands at the last note of a line with what should, where one voice sings it, or
-/// for 4 all do.
-fn compare(
-    rt: &impl Abort,
-    alloc: Global,
-    asked: &str,
-    line: &str,
-    v: u8,
-    stands: bool,
-) -> Result<(), Fail> {
-    let ex = exercise_of(alloc, EXERCISE, 4)?;
-    let score = sung(alloc, line, v)?;
-    if score.is_empty() || score.len() > 8 * usize::from(ex.bars) || score.voices() != ex.voices {
-        return Err("another size".into());
-    }
-    let last = score.len() - 1;
-    let mut found = String::new(alloc);
-    add_found(&mut found, asked, &ex, &score, last)?;
-    let wanted = if stands {
-        wanted_of(alloc, asked, last, v)?
-    } else {
-        String::new(alloc)
-    };
-    agree(rt, line, found.as_str(), wanted.as_str());
-    Ok(())
-}
+last S4
+dorian 2 1 0
+cantus D4 E4 D4
+C4 B4:1
+C4 B4:1
+C4 B4:1
+C4 B4:1
+=
+S4 1 2
+S4 1 4
+S4 1 8
 
-#[test]
-fn last_notes_break_and_cost_what_they_should(rt: HostRuntime) -> Result<(), Fail> {
-    for (table, stands) in [(BROKEN, true), (KEPT, false)] {
-        for row in table.lines() {
-            let (asked, lines) = row.split_once(": ").ok_or("nothing asked")?;
-            for line in lines.split(", ") {
-                for v in 0..if row.starts_with('S') { 4 } else { 5 } {
-                    compare(&rt, rt.alloc(), asked, line, v, stands)?;
-                }
-            }
-        }
-    }
-    Ok(())
-}
+last S4
+dorian 2 1 0
+cantus D4 E4 D4
+C4 D5:1
+C4 D5:1
+C4 D5:1
+C4 D5:1
+=
+S4 1 2
+S4 1 4
+S4 1 8
+
+last S4
+dorian 2 1 0
+cantus D4 E4 D4
+F4 F#4:1
+F4 F#4:1
+F4 F#4:1
+F4 F#4:1
+=
+S4 1 2
+S4 1 4
+S4 1 8
+
+last S4
+dorian 2 1 0
+cantus D4 E4 D4
+B#3 C4:1
+B#3 C4:1
+B#3 C4:1
+B#3 C4:1
+=
+S4 1 2
+S4 1 4
+S4 1 8
+
+last S4
+dorian 2 1 0
+cantus D4 E4 D4
+E#4 Fb4:1
+E#4 Fb4:1
+E#4 Fb4:1
+E#4 Fb4:1
+=
+S4 1 2
+S4 1 4
+S4 1 8
+
+last S5
+dorian 2 1 0
+cantus D4 E4 D4
+D4 D4:1
+D4 D4:1
+D4 D4:1
+D4 D4:1
+=
+S5 1 2
+
+last S5
+dorian 2 1 0
+cantus D4 E4 D4
+D4 D4:1
+r:2
+r:2
+r:2
+=
+
+last S5
+dorian 2 1 0
+cantus D4 E4 D4
+r:2
+r:2
+r:2
+D4 D4:1
+=
+
+last S26
+dorian 2 1 0
+cantus D4 E4 D4
+C#4 E4:1
+C#4 E4:1
+C#4 E4:1
+C#4 E4:1
+=
+S26 1 2
+S26 1 4
+S26 1 8
+
+last S26
+dorian 2 1 0
+cantus D4 E4 D4
+C#4 E4:1
+r:2
+r:2
+r:2
+=
+
+last S26
+dorian 2 1 0
+cantus D4 E4 D4
+r:2
+r:2
+r:2
+C#4 E4:1
+=
+S26 1 8
+
+last S26
+dorian 2 1 0
+cantus D4 E4 D4
+C#4 C#4:1
+C#4 C#4:1
+C#4 C#4:1
+C#4 C#4:1
+=
+S26 1 2
+S26 1 4
+S26 1 8
+
+last S26
+dorian 2 1 0
+cantus D4 E4 D4
+C#4 B3:1
+C#4 B3:1
+C#4 B3:1
+C#4 B3:1
+=
+S26 1 2
+S26 1 4
+S26 1 8
+
+last S6
+dorian 2 1 0
+cantus D4 E4 D4
+C4 F4 B4:1
+C4 F4 B4:1
+C4 F4 B4:1
+C4 F4 B4:1
+=
+S6 2 2
+S6 2 4
+S6 2 8
+
+last S6
+dorian 2 1 0
+cantus D4 E4 D4
+C4 F4 B4:1
+r:3
+r:3
+r:3
+=
+
+last S6
+dorian 2 1 0
+cantus D4 E4 D4
+r:3
+r:3
+r:3
+C4 F4 B4:1
+=
+S6 2 8
+
+last S6
+dorian 2 1 0
+cantus D4 E4 D4
+D4 G4 C5:1
+D4 G4 C5:1
+D4 G4 C5:1
+D4 G4 C5:1
+=
+S6 2 2
+S6 2 4
+S6 2 8
+
+last S6
+dorian 2 1 0
+cantus D4 E4 D4
+C4 G4 D5:1
+C4 G4 D5:1
+C4 G4 D5:1
+C4 G4 D5:1
+=
+S6 2 2
+S6 2 4
+S6 2 8
+
+last S6
+dorian 2 1 0
+cantus D4 E4 D4
+C4 G4 E5:1
+C4 G4 E5:1
+C4 G4 E5:1
+C4 G4 E5:1
+=
+S6 2 2
+S6 2 4
+S6 2 8
+
+last S6
+dorian 2 1 0
+cantus D4 E4 D4
+F4 D4 B3:1
+F4 D4 B3:1
+F4 D4 B3:1
+F4 D4 B3:1
+=
+S6 2 2
+S6 2 4
+S6 2 8
+
+last S7
+dorian 2 1 0
+cantus D4 E4 D4
+E4 C5 D5:1
+E4 C5 D5:1
+E4 C5 D5:1
+E4 C5 D5:1
+=
+S7 2 2
+S7 2 4
+S7 2 8
+
+last S7
+dorian 2 1 0
+cantus D4 E4 D4
+E4 C5 D5:1
+r:3
+r:3
+r:3
+=
+
+last S7
+dorian 2 1 0
+cantus D4 E4 D4
+r:3
+r:3
+r:3
+E4 C5 D5:1
+=
+S7 2 8
+
+last S7
+dorian 2 1 0
+cantus D4 E4 D4
+E4 C5 C5:1
+E4 C5 C5:1
+E4 C5 C5:1
+E4 C5 C5:1
+=
+S7 2 2
+S7 2 4
+S7 2 8
+
+last S7
+dorian 2 1 0
+cantus D4 E4 D4
+E4 C5 B#4:1
+E4 C5 B#4:1
+E4 C5 B#4:1
+E4 C5 B#4:1
+=
+S7 2 2
+S7 2 4
+S7 2 8
+
+last S7
+dorian 2 1 0
+cantus D4 E4 D4
+C5 C4 B3:1
+C5 C4 B3:1
+C5 C4 B3:1
+C5 C4 B3:1
+=
+S7 2 2
+S7 2 4
+S7 2 8
+
+last S8
+dorian 2 1 0
+cantus D4 E4 D4
+A4 F4 G4 B4 A4:1
+A4 F4 G4 B4 A4:1
+A4 F4 G4 B4 A4:1
+A4 F4 G4 B4 A4:1
+=
+S8 4 2
+S8 4 4
+S8 4 8
+
+last S8
+dorian 2 1 0
+cantus D4 E4 D4
+A4 F4 G4 B4 A4:1
+r:5
+r:5
+r:5
+=
+
+last S8
+dorian 2 1 0
+cantus D4 E4 D4
+r:5
+r:5
+r:5
+A4 F4 G4 B4 A4:1
+=
+S8 4 8
+
+last S8
+dorian 2 1 0
+cantus D4 E4 D4
+G4 B4 F4 G4:1
+G4 B4 F4 G4:1
+G4 B4 F4 G4:1
+G4 B4 F4 G4:1
+=
+S8 3 2
+S8 3 4
+S8 3 8
+
+last S9
+dorian 2 1 0
+cantus D4 E4 D4
+C4 F5:1
+C4 F5:1
+C4 F5:1
+C4 F5:1
+=
+S9 1 2
+S9 1 4
+S9 1 8
+
+last S9
+dorian 2 1 0
+cantus D4 E4 D4
+C4 F5:1
+r:2
+r:2
+r:2
+=
+
+last S9
+dorian 2 1 0
+cantus D4 E4 D4
+r:2
+r:2
+r:2
+C4 F5:1
+=
+S9 1 8
+
+last S9
+dorian 2 1 0
+cantus D4 E4 D4
+F5 C4:1
+F5 C4:1
+F5 C4:1
+F5 C4:1
+=
+S9 1 2
+S9 1 4
+S9 1 8
+
+last S9
+dorian 2 1 0
+cantus D4 E4 D4
+E5 C4 B3:1
+E5 C4 B3:1
+E5 C4 B3:1
+E5 C4 B3:1
+=
+S9 2 2
+S9 2 4
+S9 2 8
+
+last S9
+dorian 2 1 0
+cantus D4 E4 D4
+C4 D5 E5 F5:1
+C4 D5 E5 F5:1
+C4 D5 E5 F5:1
+C4 D5 E5 F5:1
+=
+S9 3 2
+S9 3 4
+S9 3 8
+
+last S9
+dorian 2 1 0
+cantus D4 E4 D4
+D4 F5 B3:1
+D4 F5 B3:1
+D4 F5 B3:1
+D4 F5 B3:1
+=
+S9 2 2
+S9 2 4
+S9 2 8
+
+last S9
+dorian 2 1 0
+cantus D4 E4 D4
+D5 F4 B5:1
+D5 F4 B5:1
+D5 F4 B5:1
+D5 F4 B5:1
+=
+S9 2 2
+S9 2 4
+S9 2 8
+
+last Q7
+dorian 2 1 0
+cantus D4 E4 D4
+D4 D4:1
+D4 D4:1
+D4 D4:1
+D4 D4:1
+=
+Q7 1 3
+
+last Q7
+dorian 2 1 0
+cantus D4 E4 D4
+D4 D4:1
+r:2
+r:2
+r:2
+=
+
+last Q7
+dorian 2 1 0
+cantus D4 E4 D4
+r:2
+r:2
+r:2
+D4 D4:1
+=
+Q7 1 1
+
+last Q8
+dorian 2 1 0
+cantus D4 E4 D4
+D4 F4:1
+D4 F4:1
+D4 F4:1
+D4 F4:1
+=
+Q8 1 3
+
+last Q8
+dorian 2 1 0
+cantus D4 E4 D4
+D4 F4:1
+r:2
+r:2
+r:2
+=
+
+last Q8
+dorian 2 1 0
+cantus D4 E4 D4
+r:2
+r:2
+r:2
+D4 F4:1
+=
+Q8 1 1
+
+last Q8
+dorian 2 1 0
+cantus D4 E4 D4
+E4 C4:1
+E4 C4:1
+E4 C4:1
+E4 C4:1
+=
+Q8 1 3
+
+last Q9
+dorian 2 1 0
+cantus D4 E4 D4
+D4 G4:1
+D4 G4:1
+D4 G4:1
+D4 G4:1
+=
+Q9 1 3
+
+last Q9
+dorian 2 1 0
+cantus D4 E4 D4
+D4 G4:1
+r:2
+r:2
+r:2
+=
+
+last Q9
+dorian 2 1 0
+cantus D4 E4 D4
+r:2
+r:2
+r:2
+D4 G4:1
+=
+Q9 1 1
+
+last Q9
+dorian 2 1 0
+cantus D4 E4 D4
+A4 D4:1
+A4 D4:1
+A4 D4:1
+A4 D4:1
+=
+Q9 1 3
+
+last Q9
+dorian 2 1 0
+cantus D4 E4 D4
+F4 B4:1
+F4 B4:1
+F4 B4:1
+F4 B4:1
+=
+Q9 1 3
+
+last Q10
+dorian 2 1 0
+cantus D4 E4 D4
+D4 B4:1
+D4 B4:1
+D4 B4:1
+D4 B4:1
+=
+Q10 1 3
+
+last Q10
+dorian 2 1 0
+cantus D4 E4 D4
+D4 B4:1
+r:2
+r:2
+r:2
+=
+
+last Q10
+dorian 2 1 0
+cantus D4 E4 D4
+r:2
+r:2
+r:2
+D4 B4:1
+=
+Q10 1 1
+
+last Q10
+dorian 2 1 0
+cantus D4 E4 D4
+C5 C4:1
+C5 C4:1
+C5 C4:1
+C5 C4:1
+=
+Q10 1 3
+
+last Q10
+dorian 2 1 0
+cantus D4 E4 D4
+C4 D5:1
+C4 D5:1
+C4 D5:1
+C4 D5:1
+=
+Q10 1 3
+
+last Q13
+dorian 2 1 0
+cantus D4 E4 D4
+D4 G4 A4:1
+D4 G4 A4:1
+D4 G4 A4:1
+D4 G4 A4:1
+=
+Q13 2 3
+
+last Q13
+dorian 2 1 0
+cantus D4 E4 D4
+D4 G4 A4:1
+r:3
+r:3
+r:3
+=
+
+last Q13
+dorian 2 1 0
+cantus D4 E4 D4
+r:3
+r:3
+r:3
+D4 G4 A4:1
+=
+Q13 2 1
+
+last Q13
+dorian 2 1 0
+cantus D4 E4 D4
+D4 G4 G4:1
+D4 G4 G4:1
+D4 G4 G4:1
+D4 G4 G4:1
+=
+Q13 2 3
+
+last Q13
+dorian 2 1 0
+cantus D4 E4 D4
+D4 G4 E4:1
+D4 G4 E4:1
+D4 G4 E4:1
+D4 G4 E4:1
+=
+Q13 2 3
+
+last Q13
+dorian 2 1 0
+cantus D4 E4 D4
+G4 D4 C4:1
+G4 D4 C4:1
+G4 D4 C4:1
+G4 D4 C4:1
+=
+Q13 2 3
+
+last Q13
+dorian 2 1 0
+cantus D4 E4 D4
+E4 C5 B#4:1
+E4 C5 B#4:1
+E4 C5 B#4:1
+E4 C5 B#4:1
+=
+Q13 2 3
+
+last S4
+dorian 2 1 0
+cantus D4 E4 D4
+B4:1
+B4:1
+B4:1
+B4:1
+=
+
+last S4
+dorian 2 1 0
+cantus D4 E4 D4
+D4 D4:1
+D4 D4:1
+D4 D4:1
+D4 D4:1
+=
+
+last S4
+dorian 2 1 0
+cantus D4 E4 D4
+E4 F4:1
+E4 F4:1
+E4 F4:1
+E4 F4:1
+=
+
+last S4
+dorian 2 1 0
+cantus D4 E4 D4
+E4 D4:1
+E4 D4:1
+E4 D4:1
+E4 D4:1
+=
+
+last S4
+dorian 2 1 0
+cantus D4 E4 D4
+D4 F4:1
+D4 F4:1
+D4 F4:1
+D4 F4:1
+=
+
+last S4
+dorian 2 1 0
+cantus D4 E4 D4
+E4 C4:1
+E4 C4:1
+E4 C4:1
+E4 C4:1
+=
+
+last S4
+dorian 2 1 0
+cantus D4 E4 D4
+G4 D4:1
+G4 D4:1
+G4 D4:1
+G4 D4:1
+=
+
+last S4
+dorian 2 1 0
+cantus D4 E4 D4
+F4 C4:1
+F4 C4:1
+F4 C4:1
+F4 C4:1
+=
+
+last S4
+dorian 2 1 0
+cantus D4 E4 D4
+E4 C5:1
+E4 C5:1
+E4 C5:1
+E4 C5:1
+=
+
+last S4
+dorian 2 1 0
+cantus D4 E4 D4
+C4 C5:1
+C4 C5:1
+C4 C5:1
+C4 C5:1
+=
+
+last S4
+dorian 2 1 0
+cantus D4 E4 D4
+C5 C4:1
+C5 C4:1
+C5 C4:1
+C5 C4:1
+=
+
+last S5
+dorian 2 1 0
+cantus D4 E4 D4
+D4:1
+D4:1
+D4:1
+D4:1
+=
+
+last S5
+dorian 2 1 0
+cantus D4 E4 D4
+D4 E4:1
+D4 E4:1
+D4 E4:1
+D4 E4:1
+=
+
+last S5
+dorian 2 1 0
+cantus D4 E4 D4
+F4 F#4:1
+F4 F#4:1
+F4 F#4:1
+F4 F#4:1
+=
+
+last S5
+dorian 2 1 0
+cantus D4 E4 D4
+B#3 C4:1
+B#3 C4:1
+B#3 C4:1
+B#3 C4:1
+=
+
+last S26
+dorian 2 1 0
+cantus D4 E4 D4
+C#4:1
+C#4:1
+C#4:1
+C#4:1
+=
+
+last S26
+dorian 2 1 0
+cantus D4 E4 D4
+C#4 D4:1
+C#4 D4:1
+C#4 D4:1
+C#4 D4:1
+=
+
+last S26
+dorian 2 1 0
+cantus D4 E4 D4
+C#4 Db4:1
+C#4 Db4:1
+C#4 Db4:1
+C#4 Db4:1
+=
+
+last S26
+dorian 2 1 0
+cantus D4 E4 D4
+C4 E4:1
+C4 E4:1
+C4 E4:1
+C4 E4:1
+=
+
+last S26
+dorian 2 1 0
+cantus D4 E4 D4
+Db4 D4:1
+Db4 D4:1
+Db4 D4:1
+Db4 D4:1
+=
+
+last S6
+dorian 2 1 0
+cantus D4 E4 D4
+C4 F4:1
+C4 F4:1
+C4 F4:1
+C4 F4:1
+=
+
+last S6
+dorian 2 1 0
+cantus D4 E4 D4
+C4 F4 A4:1
+C4 F4 A4:1
+C4 F4 A4:1
+C4 F4 A4:1
+=
+
+last S6
+dorian 2 1 0
+cantus D4 E4 D4
+C4 G4 C5:1
+C4 G4 C5:1
+C4 G4 C5:1
+C4 G4 C5:1
+=
+
+last S6
+dorian 2 1 0
+cantus D4 E4 D4
+G4 E4 C4:1
+G4 E4 C4:1
+G4 E4 C4:1
+G4 E4 C4:1
+=
+
+last S6
+dorian 2 1 0
+cantus D4 E4 D4
+C4 A4 B4:1
+C4 A4 B4:1
+C4 A4 B4:1
+C4 A4 B4:1
+=
+
+last S6
+dorian 2 1 0
+cantus D4 E4 D4
+E4 F4 B4:1
+E4 F4 B4:1
+E4 F4 B4:1
+E4 F4 B4:1
+=
+
+last S6
+dorian 2 1 0
+cantus D4 E4 D4
+C5 D4 B4:1
+C5 D4 B4:1
+C5 D4 B4:1
+C5 D4 B4:1
+=
+
+last S7
+dorian 2 1 0
+cantus D4 E4 D4
+E4 C5:1
+E4 C5:1
+E4 C5:1
+E4 C5:1
+=
+
+last S7
+dorian 2 1 0
+cantus D4 E4 D4
+E4 C5 B4:1
+E4 C5 B4:1
+E4 C5 B4:1
+E4 C5 B4:1
+=
+
+last S7
+dorian 2 1 0
+cantus D4 E4 D4
+E4 C5 E4:1
+E4 C5 E4:1
+E4 C5 E4:1
+E4 C5 E4:1
+=
+
+last S7
+dorian 2 1 0
+cantus D4 E4 D4
+E4 B4 C5:1
+E4 B4 C5:1
+E4 B4 C5:1
+E4 B4 C5:1
+=
+
+last S7
+dorian 2 1 0
+cantus D4 E4 D4
+C5 C4 D4:1
+C5 C4 D4:1
+C5 C4 D4:1
+C5 C4 D4:1
+=
+
+last S8
+dorian 2 1 0
+cantus D4 E4 D4
+F4 G4 B4 A4:1
+F4 G4 B4 A4:1
+F4 G4 B4 A4:1
+F4 G4 B4 A4:1
+=
+
+last S8
+dorian 2 1 0
+cantus D4 E4 D4
+A4 F4 G4 B4:1
+A4 F4 G4 B4:1
+A4 F4 G4 B4:1
+A4 F4 G4 B4:1
+=
+
+last S8
+dorian 2 1 0
+cantus D4 E4 D4
+A4 F4 G4 B4 C5:1
+A4 F4 G4 B4 C5:1
+A4 F4 G4 B4 C5:1
+A4 F4 G4 B4 C5:1
+=
+
+last S8
+dorian 2 1 0
+cantus D4 E4 D4
+A4 F4 G4 C5 A4:1
+A4 F4 G4 C5 A4:1
+A4 F4 G4 C5 A4:1
+A4 F4 G4 C5 A4:1
+=
+
+last S8
+dorian 2 1 0
+cantus D4 E4 D4
+A4 F4 F4 B4 A4:1
+A4 F4 F4 B4 A4:1
+A4 F4 F4 B4 A4:1
+A4 F4 F4 B4 A4:1
+=
+
+last S8
+dorian 2 1 0
+cantus D4 E4 D4
+A4 F4 C5 G4 B4 A4:1
+A4 F4 C5 G4 B4 A4:1
+A4 F4 C5 G4 B4 A4:1
+A4 F4 C5 G4 B4 A4:1
+=
+
+last S8
+dorian 2 1 0
+cantus D4 E4 D4
+A4 F4 B5 A5:1
+A4 F4 B5 A5:1
+A4 F4 B5 A5:1
+A4 F4 B5 A5:1
+=
+
+last S9
+dorian 2 1 0
+cantus D4 E4 D4
+C4:1
+C4:1
+C4:1
+C4:1
+=
+
+last S9
+dorian 2 1 0
+cantus D4 E4 D4
+C4 E5:1
+C4 E5:1
+C4 E5:1
+C4 E5:1
+=
+
+last S9
+dorian 2 1 0
+cantus D4 E4 D4
+C4 F5 C4:1
+C4 F5 C4:1
+C4 F5 C4:1
+C4 F5 C4:1
+=
+
+last S9
+dorian 2 1 0
+cantus D4 E4 D4
+C4 F5 A5:1
+C4 F5 A5:1
+C4 F5 A5:1
+C4 F5 A5:1
+=
+
+last S9
+dorian 2 1 0
+cantus D4 E4 D4
+C#4 D5 F5:1
+C#4 D5 F5:1
+C#4 D5 F5:1
+C#4 D5 F5:1
+=
+
+last S9
+dorian 2 1 0
+cantus D4 E4 D4
+C4 D5 E5 D5:1
+C4 D5 E5 D5:1
+C4 D5 E5 D5:1
+C4 D5 E5 D5:1
+=
+
+last S9
+dorian 2 1 0
+cantus D4 E4 D4
+C5 D5 B5:1
+C5 D5 B5:1
+C5 D5 B5:1
+C5 D5 B5:1
+=
+
+last Q7
+dorian 2 1 0
+cantus D4 E4 D4
+D4:1
+D4:1
+D4:1
+D4:1
+=
+
+last Q7
+dorian 2 1 0
+cantus D4 E4 D4
+F4 F#4:1
+F4 F#4:1
+F4 F#4:1
+F4 F#4:1
+=
+
+last Q7
+dorian 2 1 0
+cantus D4 E4 D4
+B#3 C4:1
+B#3 C4:1
+B#3 C4:1
+B#3 C4:1
+=
+
+last Q8
+dorian 2 1 0
+cantus D4 E4 D4
+D4 E4:1
+D4 E4:1
+D4 E4:1
+D4 E4:1
+=
+
+last Q8
+dorian 2 1 0
+cantus D4 E4 D4
+D4 G4:1
+D4 G4:1
+D4 G4:1
+D4 G4:1
+=
+
+last Q9
+dorian 2 1 0
+cantus D4 E4 D4
+D4 F4:1
+D4 F4:1
+D4 F4:1
+D4 F4:1
+=
+
+last Q9
+dorian 2 1 0
+cantus D4 E4 D4
+D4 B4:1
+D4 B4:1
+D4 B4:1
+D4 B4:1
+=
+
+last Q10
+dorian 2 1 0
+cantus D4 E4 D4
+A4 D4:1
+A4 D4:1
+A4 D4:1
+A4 D4:1
+=
+
+last Q13
+dorian 2 1 0
+cantus D4 E4 D4
+D4 G4:1
+D4 G4:1
+D4 G4:1
+D4 G4:1
+=
+
+last Q13
+dorian 2 1 0
+cantus D4 E4 D4
+D4 G4 F4:1
+D4 G4 F4:1
+D4 G4 F4:1
+D4 G4 F4:1
+=
+
+last Q13
+dorian 2 1 0
+cantus D4 E4 D4
+D4 F4 G4:1
+D4 F4 G4:1
+D4 F4 G4:1
+D4 F4 G4:1
+=
+
+last Q13
+dorian 2 1 0
+cantus D4 E4 D4
+G4 D4 E4:1
+G4 D4 E4:1
+G4 D4 E4:1
+G4 D4 E4:1
+=
+
+last Q13
+dorian 2 1 0
+cantus D4 E4 D4
+D4 G4 F4 E4:1
+D4 G4 F4 E4:1
+D4 G4 F4 E4:1
+D4 G4 F4 E4:1
+=";

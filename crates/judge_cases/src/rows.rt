@@ -6,21 +6,25 @@ ghost use Rattle.fux_grid.specs.Exercises.{IsValid, columns_in};
 use crate::agree::agree;
 use crate::found::add_found;
 use crate::mixed::species_of_line;
-use crate::{chords, mixed_rows, spans};
+use crate::{chords, lines, mixed_rows, spans};
 use fux_grid::{Exercise, Score, mixed_as};
 use short_scores::case_of;
 use std::alloc::Global;
 use std::process::Abort;
 use std::test::Fail;
 
-/// What stands of what is asked of a score.
+/// What stands of what is asked of a score, behind the word `last` at its last column alone.
 fn found_of(alloc: Global, asked: &str, ex: &Exercise, score: &Score) -> Result<String, Fail>
     requires valid { IsValid ex.now }
     requires voices { score.now.voices ≡ ex.now.voices }
     requires few { length score.now.columns ≤ columns_in ex.now }
 {
+    let (asked, from) = match asked.strip_prefix("last ") {
+        Some(asked) => (asked, score.len().saturating_sub(1)),
+        None => (asked, 0),
+    };
     let mut found = String::new(alloc);
-    add_found(&mut found, asked, ex, score, 0)?;
+    add_found(&mut found, asked, ex, score, from)?;
     Ok(found)
 }
 
@@ -58,7 +62,7 @@ fn mixed_cases_stand(rt: HostRuntime) -> Result<(), Fail> {
 
 #[test]
 fn cases_stand(rt: HostRuntime) -> Result<(), Fail> {
-    for table in [chords::CASES, spans::CASES] {
+    for table in [chords::CASES, lines::CASES, spans::CASES] {
         for text in table.split("\n\n") {
             compare(&rt, rt.alloc(), text)?;
         }

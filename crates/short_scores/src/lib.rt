@@ -6,4 +6,4 @@ mod given;
 mod score;
 
 pub use exercise::{Case, any_exercise_of, case_of, exercise_of, mode_of};
-pub use score::{pitch_of, pitches_of, score_of};
+pub use score::pitch_of;
