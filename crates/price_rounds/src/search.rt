@@ -30,7 +30,7 @@ const FIRST_OF_TWO: u32 = 32_768;
 
 const FIRST_OF_THREE: u32 = 65_536;
 
-const FIRST_OF_FOUR: u32 = 131_072;
+const FIRST_OF_FOUR: u32 = 196_608;
 
 /// How many are at most by the floors that keep least. These are made soonest, and often are
 /// enough.
