@@ -3,3 +3,4 @@ pub mod NoteRows
 pub mod Pictures
 pub mod Pieces
 pub mod StaffRows
+pub mod Rows

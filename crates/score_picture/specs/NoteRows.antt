@@ -15,7 +15,7 @@ use Rattle.sheet_layout.specs.Spacing.{slot_x}
 use Rattle.note_shapes.specs.declared.heads.NotePlace.{NotePlace}
 use Rattle.note_shapes.specs.declared.shapes.Shape.{Shape}
 use Rattle.note_shapes.specs.Notes.{note_shapes, rest_shapes}
-use Rattle.shape_rows.specs.Rows.{shape_row}
+use Rattle.score_picture.specs.Rows.{shape_row}
 use Rattle.score_picture.specs.StaffRows.{is_first}
 
 -- ---- what is drawn

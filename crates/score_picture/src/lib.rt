@@ -6,6 +6,7 @@ mod foot;
 mod names;
 mod notes;
 mod pages;
+mod rows;
 mod staves;
 mod symbols;
 

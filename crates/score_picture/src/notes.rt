@@ -4,11 +4,11 @@ ghost use Rattle.std.specs.Prelude.{◌≡◌, ◌-◌, ◌<◌, ◌≤◌, ◌+
 ghost use Rattle.sheet_layout.specs.Spacing.{slot_x};
 ghost use Rattle.score_picture.specs.NoteRows.{colored, drawn as drawn_of, note_place as place_of_notes, note_rows, notes_group, red_rows, resting, rule_row, rule_rows, shape_rows, shown, spot_of as spot_at, written_rows};
 
+use crate::rows::put_shape;
 use crate::staves::is_first;
 use fux_grid::Exercise;
 use fux_pitch::Memory;
 use note_shapes::{NotePlace, Shape, put_note, put_rest};
-use shape_rows::put_shape;
 use sheet_layout::{BarPlace, Staff, slot_x};
 use std::alloc::Global;
 use std::fmt::Write;

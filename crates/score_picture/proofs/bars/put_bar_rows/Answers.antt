@@ -1,6 +1,6 @@
 use Rattle.std.proofs.Common.{[], ◌∷◌, ◌++◌, string_bytes, codes}
 use Rattle.std.specs.Fmt.{decimal}
-use Rattle.shape_rows.proofs.Pushed.{pushed}
+use Rattle.score_picture.proofs.Pushed.{pushed}
 use Rattle.score_picture.specs.Pictures.{bar_rows, staves_in_bar}
 use Rattle.score_picture.specs.Pieces.{joined}
 use Rattle.score_picture.specs.StaffRows.{bar_lines}

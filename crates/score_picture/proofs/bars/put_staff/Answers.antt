@@ -1,5 +1,5 @@
 use Rattle.std.proofs.Common.{ap, ◌∙◌, string_bytes}
-use Rattle.shape_rows.proofs.Pushed.{pushed, said}
+use Rattle.score_picture.proofs.Pushed.{pushed, said}
 use Rattle.written_notes.specs.Sheets.{sheet_notes}
 use Rattle.sheet_layout.specs.Spacing.{voice_notes}
 use Rattle.score_picture.specs.NoteRows.{note_rows, notes_group}

@@ -1,6 +1,6 @@
 use Rattle.std.proofs.Common.{[], ◌∷◌, ◌++◌, string_bytes, codes}
 use Rattle.std.specs.Fmt.{decimal}
-use Rattle.shape_rows.proofs.Pushed.{pushed, said}
+use Rattle.score_picture.proofs.Pushed.{pushed, said}
 use Rattle.score_picture.specs.Names.{rule_words}
 use Rattle.score_picture.specs.Pictures.{mark_row, voice_numbers}
 use Rattle.score_picture.specs.Pieces.{joined}

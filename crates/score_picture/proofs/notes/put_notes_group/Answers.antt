@@ -1,6 +1,6 @@
 use Rattle.std.proofs.Common.{◌++◌, string_bytes, codes}
 use Rattle.std.specs.Fmt.{decimal}
-use Rattle.shape_rows.proofs.Pushed.{pushed}
+use Rattle.score_picture.proofs.Pushed.{pushed}
 use Rattle.score_picture.specs.NoteRows.{note_rows, notes_group}
 use Rattle.score_picture.proofs.notes.put_notes_group.Goals as goal
 

@@ -1,5 +1,5 @@
 use Rattle.std.proofs.Common.{◌++◌, string_bytes, codes}
-use Rattle.shape_rows.proofs.Pushed.{pushed}
+use Rattle.score_picture.proofs.Pushed.{pushed}
 use Rattle.score_picture.specs.NoteRows.{red_rows, shape_rows}
 use Rattle.score_picture.proofs.notes.put_red.Goals as goal
 

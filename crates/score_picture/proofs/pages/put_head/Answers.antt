@@ -1,5 +1,5 @@
 use Rattle.std.proofs.Common.{◌++◌, string_bytes, codes}
-use Rattle.shape_rows.proofs.Pushed.{pushed}
+use Rattle.score_picture.proofs.Pushed.{pushed}
 use Rattle.score_picture.specs.declared.symbols.TheConstants.{SYMBOLS}
 use Rattle.score_picture.specs.Pictures.{head, size}
 use Rattle.score_picture.proofs.pages.put_head.Goals as goal

@@ -1,5 +1,5 @@
 use Rattle.std.proofs.Common.{◌-◌, ◌++◌, ap, ◌∙◌, string_bytes}
-use Rattle.shape_rows.proofs.Pushed.{pushed, said}
+use Rattle.score_picture.proofs.Pushed.{pushed, said}
 use Rattle.score_picture.specs.StaffRows.{cut_sign, five_lines, is_first, lines_begin, opening}
 use Rattle.score_picture.proofs.staves.put_staff_rows.Goals as goal
 

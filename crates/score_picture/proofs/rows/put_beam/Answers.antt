@@ -1,7 +1,7 @@
 use Rattle.std.proofs.Common.{◌++◌, string_bytes, codes}
-use Rattle.shape_rows.proofs.Pushed.{pushed}
-use Rattle.shape_rows.specs.Rows.{beam_row, told}
-use Rattle.shape_rows.proofs.rows.put_beam.Goals as goal
+use Rattle.score_picture.proofs.Pushed.{pushed}
+use Rattle.score_picture.specs.Rows.{beam_row, told}
+use Rattle.score_picture.proofs.rows.put_beam.Goals as goal
 
 pub returns : goal.returns
 unfolding beam_row

@@ -1,7 +1,7 @@
 use Rattle.std.proofs.Common.{◌++◌, string_bytes, codes}
-use Rattle.shape_rows.proofs.Pushed.{pushed, said}
-use Rattle.shape_rows.specs.Rows.{symbol_name, symbol_row, told}
-use Rattle.shape_rows.proofs.rows.put_symbol.Goals as goal
+use Rattle.score_picture.proofs.Pushed.{pushed, said}
+use Rattle.score_picture.specs.Rows.{symbol_name, symbol_row, told}
+use Rattle.score_picture.proofs.rows.put_symbol.Goals as goal
 
 pub returns : goal.returns
 unfolding symbol_row
