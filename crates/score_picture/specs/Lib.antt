@@ -4,3 +4,7 @@ pub mod Pictures
 pub mod Pieces
 pub mod StaffRows
 pub mod Rows
+pub mod Hearing
+pub mod Reading
+pub mod Boxes
+pub mod Told

@@ -20,9 +20,9 @@ use Rattle.written_notes.specs.Lines.{held_on as kept_on}
 use Rattle.written_notes.specs.Marks.{is_at}
 use Rattle.written_notes.specs.Runs.{cell_behind, goes_on, held_on}
 use Rattle.written_notes.specs.Sheets.{sheet_notes}
-use Rattle.sheet_laws.specs.Hearing.{FollowOn}
-use Rattle.sheet_laws.specs.Reading.{FillFrom, MarksAreAtNotes, NotesFillBars, NotesSayCells, TiesJoinNotes, TiesMeet, said_cells}
-use Rattle.sheet_laws.proofs.RunLemmas.{HoldsOn, by_sheet, cut_at, held-alike}
+use Rattle.score_picture.specs.Hearing.{FollowOn}
+use Rattle.score_picture.specs.Reading.{FillFrom, MarksAreAtNotes, NotesFillBars, NotesSayCells, TiesJoinNotes, TiesMeet, said_cells}
+use Rattle.score_picture.proofs.RunLemmas.{HoldsOn, by_sheet, cut_at, held-alike}
 
 -- ---- notes fill the bar
 

@@ -1,5 +1,5 @@
-use Rattle.sheet_laws.proofs.Beside.{notes-apart, parts-apart}
-use Rattle.sheet_laws.proofs.notes_stand_apart.Goals as goal
+use Rattle.score_picture.proofs.Beside.{notes-apart, parts-apart}
+use Rattle.score_picture.proofs.laws.notes_stand_apart.Goals as goal
 
 pub returns-clause-notes : goal.returns-clause-notes
 returns-clause-notes c = notes-apart

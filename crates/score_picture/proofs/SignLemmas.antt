@@ -10,7 +10,7 @@ use Rattle.fux_pitch.proofs.PitchLemmas.{equal_from_test}
 use Rattle.fux_grid.specs.declared.cell.Cell.{Cell}
 use Rattle.fux_grid.specs.declared.cell.Cell.TheVariants.{Rest, Hold, Start}
 use Rattle.fux_grid.specs.Cells.{cell_follows}
-use Rattle.sheet_laws.specs.Hearing.{FollowOn, SignsAreHeard, read_by, said_behind, said_by}
+use Rattle.score_picture.specs.Hearing.{FollowOn, SignsAreHeard, read_by, said_behind, said_by}
 use Rattle.written_notes.specs.Signs.{heard_after, heard_on, sign_behind, sign_for}
 
 -- a cell behind others is heard last

@@ -1,11 +1,10 @@
 //! What who reads a sheet reads of it, and what who looks at its picture can tell: laws about the
 //! definitions of written notes, and about where they stand.
-#![tactic(auto)]
 
-ghost use Rattle.sheet_laws.specs.Boxes.{NotesStandApart, PartsStandApart};
-ghost use Rattle.sheet_laws.specs.Hearing.{SignsAreHeard};
-ghost use Rattle.sheet_laws.specs.Reading.{MarksAreAtNotes, NotesFillBars, NotesSayCells, TiesJoinNotes};
-ghost use Rattle.sheet_laws.specs.Told.{PlacesTellNotes};
+ghost use Rattle.score_picture.specs.Boxes.{NotesStandApart, PartsStandApart};
+ghost use Rattle.score_picture.specs.Hearing.{SignsAreHeard};
+ghost use Rattle.score_picture.specs.Reading.{MarksAreAtNotes, NotesFillBars, NotesSayCells, TiesJoinNotes};
+ghost use Rattle.score_picture.specs.Told.{PlacesTellNotes};
 ghost use Rattle.written_notes.specs.Values.{ValuesAddUp};
 
 /// Laws, and nothing to run: the written notes of a bar fill it and say its cells; ties join what

@@ -12,7 +12,7 @@ use Rattle.written_notes.specs.declared.marks.SheetMark.{SheetMark}
 use Rattle.written_notes.specs.Bars.{bar_cells}
 use Rattle.written_notes.specs.Marks.{is_at}
 use Rattle.written_notes.specs.Sheets.{sheet_notes}
-use Rattle.sheet_laws.specs.Hearing.{FollowOn}
+use Rattle.score_picture.specs.Hearing.{FollowOn}
 
 -- the cells that a written note or rest says: a note goes on where it is tied to the one before it,
 -- and else it starts

@@ -1,7 +1,7 @@
-use Rattle.sheet_laws.proofs.ReadingLemmas.{marks-at, notes-fill, notes-say, ties-join}
-use Rattle.sheet_laws.proofs.SignLemmas.{signs-heard}
+use Rattle.score_picture.proofs.ReadingLemmas.{marks-at, notes-fill, notes-say, ties-join}
+use Rattle.score_picture.proofs.SignLemmas.{signs-heard}
 use Rattle.written_notes.proofs.ValueSums.{values-add-up}
-use Rattle.sheet_laws.proofs.sheets_read_right.Goals as goal
+use Rattle.score_picture.proofs.laws.sheets_read_right.Goals as goal
 
 pub returns-clause-signs : goal.returns-clause-signs
 returns-clause-signs c = signs-heard

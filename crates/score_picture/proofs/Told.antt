@@ -12,7 +12,7 @@ use Rattle.sheet_layout.specs.Pages.{bar_room, next_place, place_of, staff_of, s
 use Rattle.sheet_layout.specs.Spacing.{all_notes, slot_x}
 use Rattle.sheet_layout.proofs.Apart.{rooms-grow, slots-apart}
 use Rattle.sheet_layout.proofs.Within.{within}
-use Rattle.sheet_laws.specs.Told.{IsDrawn, PlacesTellNotes, SheetHead, page_x, page_y}
+use Rattle.score_picture.specs.Told.{IsDrawn, PlacesTellNotes, SheetHead, page_x, page_y}
 
 -- a bar stands in a later system than another one, or behind it in the same
 abbrev IsBehind : ℕ → BarPlace → BarPlace → Type 0

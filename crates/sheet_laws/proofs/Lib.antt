@@ -1,5 +1,0 @@
-pub mod ReadingLemmas
-pub mod RunLemmas
-pub mod SignLemmas
-pub mod Beside
-pub mod Told

@@ -1,4 +1,0 @@
-pub mod Hearing
-pub mod Reading
-pub mod Boxes
-pub mod Told
