@@ -17,15 +17,15 @@ use Rattle.written_notes.specs.declared.values.Base.{Base}
 use Rattle.written_notes.specs.declared.values.Base.TheVariants.{Whole, Half, Quarter, Eighth}
 use Rattle.written_notes.specs.Values.{value_of}
 use Rattle.sheet_layout.specs.Spacing.{begins, has_sign, is_shown, lead, room_of, slot_x}
-use Rattle.note_shapes.specs.declared.heads.Head.{Head}
-use Rattle.note_shapes.specs.declared.heads.NotePlace.{NotePlace}
-use Rattle.note_shapes.specs.declared.shapes.Shape.{Shape}
-use Rattle.note_shapes.specs.declared.shapes.Shape.TheVariants.{At, Tie}
-use Rattle.note_shapes.specs.declared.shapes.Symbol.TheVariants.{Sharp, Flat, Natural, Dot, Ledger, UpFlag, DownFlag}
+use Rattle.sheet_layout.specs.declared.heads.Head.{Head}
+use Rattle.sheet_layout.specs.declared.heads.NotePlace.{NotePlace}
+use Rattle.sheet_layout.specs.declared.shapes.Shape.{Shape}
+use Rattle.sheet_layout.specs.declared.shapes.Shape.TheVariants.{At, Tie}
+use Rattle.sheet_layout.specs.declared.shapes.Symbol.TheVariants.{Sharp, Flat, Natural, Dot, Ledger, UpFlag, DownFlag}
 use Rattle.score_picture.specs.Boxes.{EndBefore, IsInBar, NotesStandApart, PartsStandApart, is_own, shape_from, shape_to, symbol_from, symbol_to, written_shapes}
-use Rattle.note_shapes.specs.Heads.{head_of, stem_x, tip}
-use Rattle.note_shapes.specs.Notes.{beam, dot_height, dots, flag, has_flag, has_stem, head_symbol, ledger_at, ledgers, note_shapes, point, rest_shapes, rest_symbol, rest_x, signs, starts_beam, stem, stems, tie_to, ties}
-use Rattle.note_shapes.specs.Shapes.{when}
+use Rattle.sheet_layout.specs.Heads.{head_of, stem_x, tip}
+use Rattle.sheet_layout.specs.Notes.{beam, dot_height, dots, flag, has_flag, has_stem, head_symbol, ledger_at, ledgers, note_shapes, point, rest_shapes, rest_symbol, rest_x, signs, starts_beam, stem, stems, tie_to, ties}
+use Rattle.sheet_layout.specs.Shapes.{when}
 
 -- ---- all of some shapes
 

@@ -4,13 +4,13 @@ use Rattle.std.specs.List.{All, Contains}
 use Rattle.std.specs.Option.{option_map_or}
 use Rattle.written_notes.specs.declared.bar.Written.{Written}
 use Rattle.written_notes.specs.Values.{value_of}
-use Rattle.note_shapes.specs.declared.heads.Head.{Head}
-use Rattle.note_shapes.specs.declared.heads.NotePlace.{NotePlace}
-use Rattle.note_shapes.specs.declared.shapes.Shape.{Shape}
-use Rattle.note_shapes.specs.declared.shapes.Shape.TheVariants.{At, Stem, Joined, Tie}
-use Rattle.note_shapes.specs.declared.shapes.Symbol.{Symbol}
-use Rattle.note_shapes.specs.declared.shapes.Symbol.TheVariants.{WholeHead, HalfHead, BlackHead, WholeRest, HalfRest, QuarterRest, EighthRest, UpFlag, DownFlag, Sharp, Flat, Natural, Dot, Ledger}
-use Rattle.note_shapes.specs.Notes.{dots, head_symbol, ledgers, note_shapes, point, rest_shapes, signs, stem, stems}
+use Rattle.sheet_layout.specs.declared.heads.Head.{Head}
+use Rattle.sheet_layout.specs.declared.heads.NotePlace.{NotePlace}
+use Rattle.sheet_layout.specs.declared.shapes.Shape.{Shape}
+use Rattle.sheet_layout.specs.declared.shapes.Shape.TheVariants.{At, Stem, Joined, Tie}
+use Rattle.sheet_layout.specs.declared.shapes.Symbol.{Symbol}
+use Rattle.sheet_layout.specs.declared.shapes.Symbol.TheVariants.{WholeHead, HalfHead, BlackHead, WholeRest, HalfRest, QuarterRest, EighthRest, UpFlag, DownFlag, Sharp, Flat, Natural, Dot, Ledger}
+use Rattle.sheet_layout.specs.Notes.{dots, head_symbol, ledgers, note_shapes, point, rest_shapes, signs, stem, stems}
 
 -- ---- boxes
 

@@ -12,9 +12,9 @@ use Rattle.written_notes.specs.Sheets.{is_left}
 use Rattle.sheet_layout.specs.declared.page.BarPlace.{BarPlace}
 use Rattle.sheet_layout.specs.declared.system.Staff.{Staff}
 use Rattle.sheet_layout.specs.Spacing.{slot_x}
-use Rattle.note_shapes.specs.declared.heads.NotePlace.{NotePlace}
-use Rattle.note_shapes.specs.declared.shapes.Shape.{Shape}
-use Rattle.note_shapes.specs.Notes.{note_shapes, rest_shapes}
+use Rattle.sheet_layout.specs.declared.heads.NotePlace.{NotePlace}
+use Rattle.sheet_layout.specs.declared.shapes.Shape.{Shape}
+use Rattle.sheet_layout.specs.Notes.{note_shapes, rest_shapes}
 use Rattle.score_picture.specs.Rows.{shape_row}
 use Rattle.score_picture.specs.StaffRows.{is_first}
 

@@ -1,11 +1,11 @@
 -- The rows of shapes.
 use Rattle.std.specs.Prelude.{ℕ, ◌-◌, ◌/◌, Bool, List, ◌++◌, codes, if◌then◌else◌}
 use Rattle.std.specs.Fmt.{decimal}
-use Rattle.note_shapes.specs.declared.shapes.Point.{Point}
-use Rattle.note_shapes.specs.declared.shapes.Shape.{Shape}
-use Rattle.note_shapes.specs.declared.shapes.Shape.TheVariants.{At, Stem, Joined, Tie}
-use Rattle.note_shapes.specs.declared.shapes.Symbol.{Symbol}
-use Rattle.note_shapes.specs.declared.shapes.Symbol.TheVariants.{WholeHead, HalfHead, BlackHead, WholeRest, HalfRest, QuarterRest, EighthRest, UpFlag, DownFlag, Sharp, Flat, Natural, Dot, Ledger}
+use Rattle.sheet_layout.specs.declared.shapes.Point.{Point}
+use Rattle.sheet_layout.specs.declared.shapes.Shape.{Shape}
+use Rattle.sheet_layout.specs.declared.shapes.Shape.TheVariants.{At, Stem, Joined, Tie}
+use Rattle.sheet_layout.specs.declared.shapes.Symbol.{Symbol}
+use Rattle.sheet_layout.specs.declared.shapes.Symbol.TheVariants.{WholeHead, HalfHead, BlackHead, WholeRest, HalfRest, QuarterRest, EighthRest, UpFlag, DownFlag, Sharp, Flat, Natural, Dot, Ledger}
 
 -- words, and a number behind them
 unfoldable pub told : List ℕ → ℕ → List ℕ

@@ -8,7 +8,7 @@ use Rattle.fux_grid.specs.Cells.{cell_in, pitch_of}
 use Rattle.written_notes.specs.declared.marks.SheetMark.{SheetMark}
 use Rattle.sheet_layout.specs.Pages.{place_of, staff_of, staves_end}
 use Rattle.sheet_layout.specs.Spacing.{all_notes, begins, slot_x}
-use Rattle.note_shapes.specs.Heads.{height}
+use Rattle.sheet_layout.specs.Heads.{height}
 
 -- a head of a sheet's picture: its bar and its staff, the highest being 0, its slot and its pitch
 pub record SheetHead : Type 0 where

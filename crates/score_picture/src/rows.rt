@@ -4,7 +4,7 @@ ghost use Rattle.std.specs.Prelude.{◌≡◌, ◌++◌, OnOk, string_bytes};
 ghost use Rattle.score_picture.specs.Rows.{arc_row, beam_row, shape_row, stem_row, symbol_name as name_of_symbol, symbol_row, tie_row, told};
 
 use fux_pitch::Memory;
-use note_shapes::{Point, Shape, Symbol};
+use sheet_layout::{Point, Shape, Symbol};
 use std::fmt::Write;
 
 /// Appends words, and a number behind them.

@@ -1,8 +1,8 @@
 use Rattle.std.proofs.Common.{◌++◌, ◌∷◌, [], ap, ◌∙◌}
-use Rattle.note_shapes.proofs.Pushed.{pushed}
-use Rattle.note_shapes.specs.declared.shapes.Shape.TheVariants.{At}
-use Rattle.note_shapes.specs.Notes.{dots, point, rest_symbol}
-use Rattle.note_shapes.proofs.written.put_rest.Goals as goal
+use Rattle.sheet_layout.proofs.Pushed.{pushed}
+use Rattle.sheet_layout.specs.declared.shapes.Shape.TheVariants.{At}
+use Rattle.sheet_layout.specs.Notes.{dots, point, rest_symbol}
+use Rattle.sheet_layout.proofs.written.put_rest.Goals as goal
 
 pub returns : goal.returns
 returns c =

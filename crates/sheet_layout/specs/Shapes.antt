@@ -1,6 +1,6 @@
 -- Shapes.
 use Rattle.std.specs.Prelude.{Bool, List, [], ◌∷◌, if◌then◌else◌}
-use Rattle.note_shapes.specs.declared.shapes.Shape.{Shape}
+use Rattle.sheet_layout.specs.declared.shapes.Shape.{Shape}
 
 -- a shape where it is drawn
 abbrev pub when : Bool → Shape → List Shape

@@ -2,10 +2,10 @@
 
 ghost use Rattle.std.specs.Prelude.{◌≡◌, ◌≤◌};
 ghost use Rattle.fux_pitch.specs.Pitch.{degree_of};
-ghost use Rattle.note_shapes.specs.Heads.{goes_up, head_of as head_for, head_with, height as height_of, other_degree as other_degree_of, other_slot, pitch_at, stem_x as x_of_stem, tip as tip_of};
+ghost use Rattle.sheet_layout.specs.Heads.{goes_up, head_of as head_for, head_with, height as height_of, other_degree as other_degree_of, other_slot, pitch_at, stem_x as x_of_stem, tip as tip_of};
 
+use crate::spacing::slot_x;
 use fux_pitch::Pitch;
-use sheet_layout::slot_x;
 use written_notes::{Beam, Written, beam_of};
 
 /// What the notes of a bar of a voice have in common: the degree of its staff's middle line, the

@@ -1,7 +1,7 @@
 use Rattle.std.proofs.Common.{◌++◌}
 use Rattle.written_notes.proofs.Steps.{part-made}
-use Rattle.note_shapes.specs.Notes.{ledger_at, ledgers}
-use Rattle.note_shapes.proofs.written.put_ledgers.Goals as goal
+use Rattle.sheet_layout.specs.Notes.{ledger_at, ledgers}
+use Rattle.sheet_layout.proofs.written.put_ledgers.Goals as goal
 
 pub loop-spaces-preserved : goal.loop-spaces-preserved
 loop-spaces-preserved c =

@@ -1,13 +1,13 @@
 //! What is drawn of a written note or rest.
 
 ghost use Rattle.std.specs.Prelude.{◌≡◌, ◌≤◌, ◌++◌, ◌∷◌, [], OnOk};
-ghost use Rattle.note_shapes.specs.declared.shapes.Shape.TheVariants.{At};
-ghost use Rattle.note_shapes.specs.Notes.{beam as beam_shape, dot_height as dot_height_of, dots, flag as flag_shape, has_flag, has_stem, head_shapes, head_symbol as symbol_of_head, ledger_at, ledgers, note_shapes, point, rest_shapes, rest_symbol as symbol_of_rest, rest_x as x_of_rest, signs, starts_beam, stem as stem_shape, stems, tie_to as tie_end_of, ties};
+ghost use Rattle.sheet_layout.specs.declared.shapes.Shape.TheVariants.{At};
+ghost use Rattle.sheet_layout.specs.Notes.{beam as beam_shape, dot_height as dot_height_of, dots, flag as flag_shape, has_flag, has_stem, head_shapes, head_symbol as symbol_of_head, ledger_at, ledgers, note_shapes, point, rest_shapes, rest_symbol as symbol_of_rest, rest_x as x_of_rest, signs, starts_beam, stem as stem_shape, stems, tie_to as tie_end_of, ties};
 
 use crate::heads::{Head, NotePlace, head_of, stem_x, tip};
 use crate::shapes::{Point, Shape, Symbol, put_when};
+use crate::spacing::slot_x;
 use fux_pitch::{Memory, Pitch};
-use sheet_layout::slot_x;
 use written_notes::{Base, Beam, Sign, Written};
 
 /// The symbol of a head.

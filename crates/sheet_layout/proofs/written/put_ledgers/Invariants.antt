@@ -1,7 +1,7 @@
 use Rattle.std.proofs.Common.{◌≡◌, ◌-◌, ◌++◌}
 use Rattle.std.specs.List.{flat_map, range_with_len}
-use Rattle.note_shapes.specs.Notes.{ledger_at, ledgers}
-use Rattle.note_shapes.proofs.written.put_ledgers.Given as goal
+use Rattle.sheet_layout.specs.Notes.{ledger_at, ledgers}
+use Rattle.sheet_layout.proofs.written.put_ledgers.Given as goal
 
 -- the lines so far, and those of the spaces that are left, are the lines of the head
 abbrev pub invariant-loop-spaces : goal.invariant-loop-spaces

@@ -1,7 +1,7 @@
 //! Shapes.
 
 ghost use Rattle.std.specs.Prelude.{◌≡◌, ◌++◌, OnOk};
-ghost use Rattle.note_shapes.specs.Shapes.{when};
+ghost use Rattle.sheet_layout.specs.Shapes.{when};
 
 use fux_pitch::Memory;
 

@@ -11,15 +11,15 @@ use Rattle.written_notes.specs.declared.signs.Sign.TheVariants as sign
 use Rattle.written_notes.specs.declared.values.Base.{Base}
 use Rattle.written_notes.specs.declared.values.Base.TheVariants.{Whole, Half, Quarter, Eighth}
 use Rattle.sheet_layout.specs.Spacing.{slot_x}
-use Rattle.note_shapes.specs.declared.heads.Head.{Head}
-use Rattle.note_shapes.specs.declared.heads.NotePlace.{NotePlace}
-use Rattle.note_shapes.specs.declared.shapes.Point.{Point}
-use Rattle.note_shapes.specs.declared.shapes.Shape.{Shape}
-use Rattle.note_shapes.specs.declared.shapes.Shape.TheVariants.{At, Stem, Joined, Tie}
-use Rattle.note_shapes.specs.declared.shapes.Symbol.{Symbol}
-use Rattle.note_shapes.specs.declared.shapes.Symbol.TheVariants.{WholeHead, HalfHead, BlackHead, WholeRest, HalfRest, QuarterRest, EighthRest, UpFlag, DownFlag, Sharp, Flat, Natural, Dot, Ledger}
-use Rattle.note_shapes.specs.Heads.{head_of, stem_x, tip}
-use Rattle.note_shapes.specs.Shapes.{when}
+use Rattle.sheet_layout.specs.declared.heads.Head.{Head}
+use Rattle.sheet_layout.specs.declared.heads.NotePlace.{NotePlace}
+use Rattle.sheet_layout.specs.declared.shapes.Point.{Point}
+use Rattle.sheet_layout.specs.declared.shapes.Shape.{Shape}
+use Rattle.sheet_layout.specs.declared.shapes.Shape.TheVariants.{At, Stem, Joined, Tie}
+use Rattle.sheet_layout.specs.declared.shapes.Symbol.{Symbol}
+use Rattle.sheet_layout.specs.declared.shapes.Symbol.TheVariants.{WholeHead, HalfHead, BlackHead, WholeRest, HalfRest, QuarterRest, EighthRest, UpFlag, DownFlag, Sharp, Flat, Natural, Dot, Ledger}
+use Rattle.sheet_layout.specs.Heads.{head_of, stem_x, tip}
+use Rattle.sheet_layout.specs.Shapes.{when}
 
 abbrev pub point : ℕ → ℕ → Point
 point x y = record { x = x; y = y }

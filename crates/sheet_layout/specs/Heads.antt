@@ -9,7 +9,7 @@ use Rattle.written_notes.specs.declared.beams.Beam.{Beam}
 use Rattle.written_notes.specs.declared.beams.Beam.TheVariants.{Without, Begins, Ends}
 use Rattle.written_notes.specs.Beams.{beam_of}
 use Rattle.sheet_layout.specs.Spacing.{slot_x}
-use Rattle.note_shapes.specs.declared.heads.Head.{Head}
+use Rattle.sheet_layout.specs.declared.heads.Head.{Head}
 
 -- the height of a degree: four to a step, and the middle line at 600
 abbrev pub height : ℕ → ℕ → ℕ
