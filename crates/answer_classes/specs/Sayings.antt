@@ -8,8 +8,8 @@ use Rattle.class_marker.specs.Markings.{IsContent, IsMarking, IsTheText, MarksTe
 use Rattle.fux_grid.specs.declared.exercise.Exercise.{Exercise}
 use Rattle.fux_grid.specs.Grid.{Grid}
 use Rattle.fux_text.specs.Texts.{HasFault}
-use Rattle.lesson_answers.specs.declared.answer.AnswerLines.{AnswerLines}
-use Rattle.lesson_answers.specs.Answers.{TellsAnswer}
+use Rattle.class_marker.specs.declared.answer.AnswerLines.{AnswerLines}
+use Rattle.class_marker.specs.Answers.{TellsAnswer}
 use Rattle.answer_classes.specs.declared.said.Said.{Said}
 use Rattle.answer_classes.specs.declared.said.Said.TheVariants.{Told, Refused, Unjoined, Unread}
 use Rattle.smf_answers.specs.declared.manner.Manner.{Manner}

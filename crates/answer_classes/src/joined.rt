@@ -2,14 +2,13 @@
 
 ghost use Rattle.std.specs.Prelude.{◌≡◌, IfOk};
 ghost use Rattle.fux_grid.specs.Exercises.{IsGiven, IsValid};
-ghost use Rattle.lesson_answers.specs.Answers.{TellsAnswer};
+ghost use Rattle.class_marker.specs.Answers.{TellsAnswer};
 ghost use Rattle.answer_classes.specs.Sayings.{IsSaidJoined, IsSaidOfBytes, IsSaidOfFile, as_answer};
 
 use crate::said::Said;
-use class_marker::Text;
+use class_marker::{AnswerLines, Text, answer_lines};
 use fux_grid::{Exercise, Score};
 use fux_pitch::Memory;
-use lesson_answers::{AnswerLines, answer_lines};
 use smf_answers::{JoinFault, Manner, join_smf};
 use smf_bytes::ByteFault;
 use smf_score::SmfFault;

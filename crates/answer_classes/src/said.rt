@@ -5,11 +5,10 @@ ghost use Rattle.std.specs.Option.{ForSome, option_copied};
 ghost use Rattle.fux_grid.specs.Exercises.{IsValid};
 ghost use Rattle.answer_classes.specs.Sayings.{IsSaid, IsSaidOf, IsSaidOfText, SaysExercise};
 
-use class_marker::{Marking, Text, Unmarked, mark_text};
+use class_marker::{AnswerLines, Marking, Text, Unmarked, answer_lines, mark_text};
 use fux_grid::Exercise;
 use fux_pitch::Memory;
 use fux_text::{TextFault, TextKind, read};
-use lesson_answers::{AnswerLines, answer_lines};
 use smf_answers::JoinFault;
 use std::alloc::Global;
 

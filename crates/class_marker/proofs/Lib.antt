@@ -1,2 +1,4 @@
 pub mod ListLemmas
 pub mod ReportLemmas
+pub mod AnsweringLemmas
+pub mod SectionLemmas

@@ -1,14 +1,26 @@
-//! What `mark` says of an exercise, and the report of a class of exercises, marked side by side.
+//! What `mark` says of an exercise, and the report of a class of exercises, marked side by side;
+//! what an answer has otherwise than its lesson, and its marks by the lesson.
 #![tactic(auto)]
 
+mod answer;
+mod answer_law;
 mod class;
+mod comparing;
+mod difference;
+mod difference_lines;
 mod list;
+mod listing;
 mod marking;
 mod one;
 mod unmarked;
 
+pub use answer::{AnswerLines, answer_lines, is_markable};
+pub use answer_law::none_differ;
 pub use class::{ClassReport, report};
+pub use difference::Difference;
+pub use difference_lines::put_differences;
 pub use list::{ListFault, listed_text, lists_are_read, read_list};
+pub use listing::differences;
 pub use marking::{MarkLines, lines_of, mark};
 pub use one::{Marking, Text, mark_text};
 pub use unmarked::{Unmarked, put_unmarked};

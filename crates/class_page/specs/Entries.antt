@@ -6,10 +6,10 @@ use Rattle.class_marker.specs.Markings.{IsContent, IsTheText}
 use Rattle.fux_grid.specs.declared.exercise.Exercise.{Exercise}
 use Rattle.fux_grid.specs.Grid.{Grid}
 use Rattle.fux_text.specs.Texts.{HasFault}
-use Rattle.lesson_answers.specs.declared.difference.Difference.{Difference}
-use Rattle.lesson_answers.specs.Answers.{is_markable}
-use Rattle.lesson_answers.specs.DifferenceLines.{difference_lines}
-use Rattle.lesson_answers.specs.Differences.{differences}
+use Rattle.class_marker.specs.declared.difference.Difference.{Difference}
+use Rattle.class_marker.specs.Answers.{is_markable}
+use Rattle.class_marker.specs.DifferenceLines.{difference_lines}
+use Rattle.class_marker.specs.Differences.{differences}
 use Rattle.mark_evidence.specs.Explained.{explained_marks}
 use Rattle.score_marker.specs.declared.mark.Mark.{Mark}
 use Rattle.score_marker.specs.Marks.{AreMarks}

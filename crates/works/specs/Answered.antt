@@ -4,8 +4,8 @@ use Rattle.class_marker.specs.Markings.{IsTheText}
 use Rattle.fux_grid.specs.declared.exercise.Exercise.{Exercise}
 use Rattle.fux_grid.specs.Grid.{Grid}
 use Rattle.fux_text.specs.Texts.{HasFault}
-use Rattle.lesson_answers.specs.declared.answer.AnswerLines.{AnswerLines}
-use Rattle.lesson_answers.specs.Answers.{TellsAnswer}
+use Rattle.class_marker.specs.declared.answer.AnswerLines.{AnswerLines}
+use Rattle.class_marker.specs.Answers.{TellsAnswer}
 use Rattle.works.specs.declared.refusal.Refusal.{Refusal}
 use Rattle.works.specs.declared.refusal.Refusal.TheVariants as refusal
 use Rattle.works.specs.declared.work.Output.{Output}

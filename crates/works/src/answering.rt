@@ -17,11 +17,10 @@ use crate::exercise::{LONGEST_TEXT, exercise_of};
 use crate::making::said;
 use crate::refusal::Refusal;
 use crate::work::{Output, Stop, Verdict};
-use class_marker::Text;
+use class_marker::{AnswerLines, Text, answer_lines};
 use fux_grid::Exercise;
 use fux_port::Shelf;
 use fux_text::{TextFault, TextKind, read};
-use lesson_answers::{AnswerLines, answer_lines};
 use std::alloc::Global;
 
 /// What is said of a lesson of more than 65,536 bytes.

@@ -1,6 +1,6 @@
 use Rattle.std.proofs.Common.{◌≡◌, Option, Some, IfOk, subst}
 use Rattle.fux_grid.specs.Grid.{Grid}
-use Rattle.lesson_answers.specs.Differences.{differences}
+use Rattle.class_marker.specs.Differences.{differences}
 use Rattle.class_page.proofs.telling.differing.Goals as goal
 
 one_score : (setting : Option Grid) (a b : Grid) → setting ≡ Some a → setting ≡ Some b → a ≡ b

@@ -1,0 +1,19 @@
+use Rattle.std.proofs.Common.{map, min, arith}
+use Rattle.class_marker.specs.declared.difference.Difference.TheVariants.{Given}
+use Rattle.class_marker.specs.Differences.{common_bars, differs}
+use Rattle.class_marker.proofs.SectionLemmas.{all_parts_kept, numbers_kept}
+use Rattle.class_marker.proofs.listing.put_given.Goals as goal
+
+pub loop-voice-preserved : goal.loop-voice-preserved
+loop-voice-preserved c =
+    let lesson = c.args.lesson.now in
+    let answer = c.args.answer.now in
+    numbers_kept (differs lesson answer c.args.score.now.columns) (λ v. map (λ bar. Given v bar) (common_bars lesson answer)) _ _ _ c.loop-voice.voice
+    (min lesson.voices answer.voices) (omega arith) c.in_ok-put_given_of.ensures c.loop-voice.invariant
+
+pub returns : goal.returns
+returns c =
+    let lesson = c.args.lesson.now in
+    let answer = c.args.answer.now in
+    all_parts_kept (differs lesson answer c.args.score.now.columns) (λ v. map (λ bar. Given v bar) (common_bars lesson answer)) _ _ c.loop-voice.voice
+    (min lesson.voices answer.voices) (omega arith) c.loop-voice.invariant

@@ -1,0 +1,17 @@
+use Rattle.std.proofs.Common.{not, ◌+◌, ◌++◌, ◌∙◌, filter, map, ap, arith}
+use Rattle.std.specs.List.{range_with_len}
+use Rattle.class_marker.specs.declared.difference.Difference.TheVariants.{Given}
+use Rattle.class_marker.specs.Differences.{differs}
+use Rattle.class_marker.proofs.SectionLemmas.{all_kept, number_kept}
+use Rattle.class_marker.proofs.listing.put_given_of.Goals as goal
+
+pub loop-bar-preserved : goal.loop-bar-preserved
+loop-bar-preserved c =
+    number_kept (differs c.args.lesson.now c.args.answer.now c.args.score.now.columns) (λ bar. Given c.args.voice bar) _ _ _ _ c.loop-bar.bar
+    (c.fewer-bars.result + 1) (omega arith) (ap not c.fits_in_bar-is_other.ensures) c.in_ok-put_if.ensures c.loop-bar.invariant
+
+pub returns : goal.returns
+returns c =
+    let P = differs c.args.lesson.now c.args.answer.now c.args.score.now.columns in
+    all_kept P (λ bar. Given c.args.voice bar) _ _ c.loop-bar.bar (c.fewer-bars.result + 1) (omega arith) c.loop-bar.invariant
+    ∙ ap (λ n. c.args.out.now.items ++ filter P (map (λ bar. Given c.args.voice bar) (range_with_len 1 n))) c.fewer-bars.ensures

@@ -1,4 +1,0 @@
-pub mod Answering
-pub mod Answers
-pub mod DifferenceLines
-pub mod Differences
