@@ -11,7 +11,7 @@ use Rattle.fux_grid.specs.Exercises.{columns_in}
 use Rattle.fux_judge.specs.Gauges.{least_of}
 use Rattle.fux_judge.specs.Penalties.{paid}
 use Rattle.open_ends.specs.declared.keeps.Keeps.{Keeps}
-use Rattle.path_sums.specs.LeastRests.{least_sum}
+use Rattle.priced_paths.specs.LeastRests.{least_sum}
 use Rattle.penalty_sheet.specs.declared.sheet.Sheet.{Sheet}
 use Rattle.price_check.specs.declared.floors.ListFloor.{ListFloor}
 use Rattle.price_check.specs.Floors.{StandsIn, exercise_of, list_of, sheet_of}

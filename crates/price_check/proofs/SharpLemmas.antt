@@ -36,7 +36,7 @@ use Rattle.price_law.proofs.Ways.{numbers_from-append}
 use Rattle.price_lists.specs.Laws.{StatedFloorsAreOne}
 use Rattle.price_lists.specs.Stated.{AreStated}
 use Rattle.price_text.specs.PriceLines.{Line}
-use Rattle.path_sums.specs.Stands.{StandsAt}
+use Rattle.priced_paths.specs.Stands.{StandsAt}
 use Rattle.price_check.specs.declared.floors.ListFloor.{ListFloor}
 use Rattle.price_check.specs.Floors.{AreFor, ArePlaces, list_of}
 use Rattle.priced_paths.specs.declared.guide.Place.{Place}

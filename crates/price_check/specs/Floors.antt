@@ -1,7 +1,7 @@
 -- Lists with the webs in which their numbers were worked, and where paths stand in these.
 use Rattle.std.specs.Prelude.{◌≡◌, ℕ, List, Option, Some, None, length, slice_get, slice_index_or}
 use Rattle.fux_grid.specs.declared.exercise.Exercise.{Exercise}
-use Rattle.path_sums.specs.Stands.{StandsAt}
+use Rattle.priced_paths.specs.Stands.{StandsAt}
 use Rattle.penalty_sheet.specs.declared.sheet.Sheet.{Sheet}
 use Rattle.price_check.specs.declared.floors.ListFloor.{ListFloor}
 use Rattle.price_law.specs.PriceLists.{PriceList, case_in}

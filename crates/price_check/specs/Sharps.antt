@@ -13,7 +13,7 @@ use Rattle.fux_grid.specs.Exercises.{columns_in}
 use Rattle.price_check.specs.declared.sharp_case.SharpKnown.{SharpKnown}
 use Rattle.price_check.specs.declared.floors.ListFloor.{ListFloor}
 use Rattle.price_check.specs.declared.floors.TheConstants.{MOST_LISTS}
-use Rattle.path_sums.specs.Stands.{StandsAt}
+use Rattle.priced_paths.specs.Stands.{StandsAt}
 use Rattle.priced_floors.specs.declared.kept.Kept.{Kept}
 use Rattle.priced_paths.specs.declared.guide.Place.{Place}
 use Rattle.priced_paths.specs.declared.web.Web.{Web}

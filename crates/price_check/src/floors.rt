@@ -13,9 +13,8 @@ ghost use Rattle.price_law.specs.PriceLists.{list_sum, path_of, sharp_tail};
 ghost use Rattle.rule_law.specs.Prefixes.{IsPrefix};
 
 use cert_law::Judged;
-use path_sums::PathSums;
 use priced_floors::PricedSpace;
-use priced_paths::Place;
+use priced_paths::{PathSums, Place};
 
 /// How many lists there are at most.
 pub const MOST_LISTS: usize = 8;

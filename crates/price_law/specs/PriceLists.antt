@@ -10,7 +10,7 @@ use Rattle.fux_judge.specs.Gauges.{least_of}
 use Rattle.fux_judge.specs.Penalties.{paid}
 use Rattle.open_ends.specs.declared.keeps.Keeps.{Keeps}
 use Rattle.penalty_sheet.specs.declared.sheet.Sheet.{Sheet}
-use Rattle.path_sums.specs.LeastRests.{least_sum}
+use Rattle.priced_paths.specs.LeastRests.{least_sum}
 use Rattle.priced_floors.specs.declared.charges.Charges.{Charges}
 use Rattle.priced_floors.specs.Charges.{reaches_in, toll_in}
 use Rattle.priced_floors.specs.Kept.{kept_of, step_of}

@@ -10,7 +10,7 @@ use Rattle.fux_grid.specs.Exercises.{columns_in}
 use Rattle.fux_grid.specs.Menus.{menu_of}
 use Rattle.fux_judge.specs.Gauges.{free_voices}
 use Rattle.open_ends.specs.declared.keeps.Keeps.{Keeps}
-use Rattle.path_sums.specs.LeastRests.{least_sum}
+use Rattle.priced_paths.specs.LeastRests.{least_sum}
 use Rattle.penalty_sheet.specs.declared.sheet.Sheet.{Sheet}
 use Rattle.price_law.specs.PriceLists.{PriceList, case_in, charged_sum, greatest_sum, least_on, list_sum, paid_on, path_of, sharp_floor, spent_by, spent_of}
 use Rattle.price_lists.specs.Laws.{StatedFloorsAreOne}

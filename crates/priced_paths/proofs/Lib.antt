@@ -7,3 +7,6 @@ pub mod Once
 pub mod Listing
 pub mod Puts
 pub mod Laying
+pub mod RestLaws
+pub mod WebRests
+pub mod SpotRests

@@ -7,3 +7,5 @@ pub mod LeadBacks
 pub mod Sizes
 pub mod Listed
 pub mod Laid
+pub mod LeastRests
+pub mod Stands

@@ -1,7 +1,7 @@
 use Rattle.std.proofs.Common.{ℕ, ap, sym, ◌∙◌}
 use Rattle.priced_paths.specs.CaseGraphs.{Case, case_of}
-use Rattle.path_sums.specs.Stands.{sum_there}
-use Rattle.path_sums.proofs.sums.PathSums.sum.Goals as goal
+use Rattle.priced_paths.specs.Stands.{sum_there}
+use Rattle.priced_paths.proofs.sums.PathSums.sum.Goals as goal
 
 pub returns-in_default : goal.returns-in_default
 returns-in_default g c = λ path stands room.

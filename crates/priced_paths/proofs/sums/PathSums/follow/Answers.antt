@@ -4,8 +4,8 @@ use Rattle.priced_paths.specs.CaseGraphs.{Case, case_of}
 use Rattle.priced_paths.specs.Webs.{edge_in, spot_at}
 use Rattle.priced_paths.proofs.Spots.{end_of, spot-append_none, spot_from-append}
 use Rattle.priced_paths.proofs.Sums.{place_on}
-use Rattle.path_sums.specs.Stands.{StandsAt}
-use Rattle.path_sums.proofs.sums.PathSums.follow.Goals as goal
+use Rattle.priced_paths.specs.Stands.{StandsAt}
+use Rattle.priced_paths.proofs.sums.PathSums.follow.Goals as goal
 
 pub returns-in_default : goal.returns-in_default
 returns-in_default g c = λ path stands.

@@ -16,8 +16,8 @@ use Rattle.priced_paths.specs.Tolls.{sum_of}
 use Rattle.priced_paths.specs.Webs.{IsEdgeOf, IsWeb, depth_in, edge_in, labels_in, labels_or}
 use Rattle.priced_paths.proofs.Mapped.{node_parts}
 use Rattle.priced_paths.proofs.Spots.{depth-of, edge-within}
-use Rattle.path_sums.specs.LeastRests.{Breadth, Steps, least_rest, sum_through, through}
-use Rattle.path_sums.proofs.RestLaws.{least_low}
+use Rattle.priced_paths.specs.LeastRests.{Breadth, Steps, least_rest, sum_through, through}
+use Rattle.priced_paths.proofs.RestLaws.{least_low}
 
 -- ---- least sums
 

@@ -5,7 +5,7 @@ use Rattle.priced_paths.specs.declared.web.Web.{Web}
 use Rattle.priced_paths.specs.CaseGraphs.{Case}
 use Rattle.priced_paths.specs.Places.{IsPlaceOf, least_at}
 use Rattle.priced_paths.specs.Webs.{spot_at}
-use Rattle.path_sums.specs.LeastRests.{Breadth, Steps, least_sum}
+use Rattle.priced_paths.specs.LeastRests.{Breadth, Steps, least_sum}
 
 -- the place is the path's, or there is none, and the path has no spot
 abbrev pub StandsAt : {K : Type 0} → Web K → (ℕ → Case) → ℕ → Option Place → List ℕ → Type 0

@@ -1,7 +1,7 @@
 use Rattle.std.proofs.Common.{arith}
 use Rattle.priced_paths.specs.CaseGraphs.{case_of}
 use Rattle.priced_paths.proofs.Sums.{place_begins}
-use Rattle.path_sums.proofs.sums.PathSums.start.Goals as goal
+use Rattle.priced_paths.proofs.sums.PathSums.start.Goals as goal
 
 pub returns : goal.returns
 returns g c =

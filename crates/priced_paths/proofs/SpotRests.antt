@@ -16,9 +16,9 @@ use Rattle.priced_paths.specs.Places.{IsPlaceOf, least_at, numbers_of, standing,
 use Rattle.priced_paths.specs.Tolls.{charged_to, has_reached, sum_of}
 use Rattle.priced_paths.specs.Webs.{IsEdgeOf, IsWeb, LeadsOn, edge_in, labels_or, slot_edge, spot_at, spot_from}
 use Rattle.priced_paths.proofs.Spots.{edge-within}
-use Rattle.path_sums.specs.LeastRests.{Breadth, Steps, kept_behind, least_rest, least_sum, rest_of_path, step_in, sum_in_case}
-use Rattle.path_sums.specs.Stands.{AreExact}
-use Rattle.path_sums.proofs.WebRests.{least_same, rests}
+use Rattle.priced_paths.specs.LeastRests.{Breadth, Steps, kept_behind, least_rest, least_sum, rest_of_path, step_in, sum_in_case}
+use Rattle.priced_paths.specs.Stands.{AreExact}
+use Rattle.priced_paths.proofs.WebRests.{least_same, rests}
 
 -- ---- spots
 

@@ -1,8 +1,8 @@
 use Rattle.priced_paths.specs.CaseGraphs.{case_of}
 use Rattle.priced_paths.proofs.Spots.{sound_from_web}
 use Rattle.priced_paths.proofs.Mapped.{priced_floors}
-use Rattle.path_sums.proofs.SpotRests.{are_exact}
-use Rattle.path_sums.proofs.sums.PathSums.new.Goals as goal
+use Rattle.priced_paths.proofs.SpotRests.{are_exact}
+use Rattle.priced_paths.proofs.sums.PathSums.new.Goals as goal
 
 pub invariant_of-guide : goal.invariant_of-guide
 invariant_of-guide g c =

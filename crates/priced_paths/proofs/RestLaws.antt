@@ -13,7 +13,7 @@ use Rattle.priced_paths.specs.Pricings.{IsPriced, IsPricedStep}
 use Rattle.priced_paths.specs.Tolls.{charged_to, has_reached, sum_of}
 use Rattle.priced_paths.specs.declared.web.TheConstants.{MOST_COST}
 use Rattle.priced_paths.proofs.TollSteps.{charged-append, charged_start, reached-append}
-use Rattle.path_sums.specs.LeastRests.{Breadth, Steps, kept_behind, least_rest, least_sum, rest_of_path, step_in, sum_in_case, sum_through, through}
+use Rattle.priced_paths.specs.LeastRests.{Breadth, Steps, kept_behind, least_rest, least_sum, rest_of_path, step_in, sum_in_case, sum_through, through}
 
 -- ---- numbers
 

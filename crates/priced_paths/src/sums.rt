@@ -1,15 +1,17 @@
 //! Going along paths of a web, and their sums.
 
 ghost use Rattle.std.specs.Prelude.{◌≡◌, ◌<◌, ◌≤◌, ◌++◌, ◌∷◌, ◌^◌, [], ℕ, List, length};
-ghost use Rattle.path_sums.specs.LeastRests as rests;
-ghost use Rattle.path_sums.specs.Stands.{AreExact, StandsAt, StandsSomewhere};
+ghost use Rattle.priced_paths.specs.LeastRests as rests;
+ghost use Rattle.priced_paths.specs.Stands.{AreExact, StandsAt, StandsSomewhere};
 ghost use Rattle.priced_paths.specs.CaseGraphs.{case_of};
 ghost use Rattle.priced_paths.specs.Places.{AreNumbersOf, numbers_of};
 ghost use Rattle.priced_paths.specs.Webs.{IsWeb};
 ghost use Rattle.priced_paths.specs.declared.pricing.TheConstants.{MOST_CASES};
 
+use crate::guide::{Place, PricedGuide, first_place};
+use crate::pricing::Pricing;
+use crate::web::Web;
 use fux_pitch::List as Numbers;
-use priced_paths::{Place, PricedGuide, Pricing, Web, first_place};
 use tree_search::Space;
 
 /// A web that was checked, with the least numbers of each case.

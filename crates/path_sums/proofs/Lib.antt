@@ -1,3 +1,0 @@
-pub mod RestLaws
-pub mod WebRests
-pub mod SpotRests

@@ -1,2 +1,0 @@
-pub mod LeastRests
-pub mod Stands
