@@ -31,12 +31,12 @@ use Rattle.price_check.specs.declared.priced_list.PricedList.{PricedList}
 use Rattle.price_check.specs.Floors.{AreFor, list_of}
 use Rattle.price_check.specs.Statements.{HasLargeStated}
 use Rattle.price_check.specs.Woven.{list_priced}
-use Rattle.price_lists.specs.declared.stated.OwnList.{OwnList}
-use Rattle.price_lists.specs.Owned.{list_owned}
+use Rattle.price_check.specs.declared.stated.OwnList.{OwnList}
+use Rattle.price_check.specs.Owned.{list_owned}
 use Rattle.penalty_sheet.specs.declared.sheet.Sheet.{Sheet}
 use Rattle.priced_paths.specs.declared.states.WebFault.{WebFault}
 use Rattle.priced_paths.specs.declared.states.WebFault.TheVariants as woven
-use Rattle.price_lists.specs.Stated.{AreEachStated, AreStated, StatedList, and_more, first_above, lists_of, price_in, prices_in}
+use Rattle.price_check.specs.Stated.{AreEachStated, AreStated, StatedList, and_more, first_above, lists_of, price_in, prices_in}
 use Rattle.price_law.specs.PriceLists.{PriceList}
 use Rattle.price_text.specs.Lists.{AreLinesOf, AreLists, lists_text}
 use Rattle.price_text.specs.PriceLines.{Cases, Claims, Keeps, Line, Price, after}

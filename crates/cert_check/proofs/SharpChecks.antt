@@ -19,9 +19,9 @@ use Rattle.price_law.specs.Certificates.{IsFairList, sharp_tree}
 use Rattle.price_law.specs.PriceLists.{PriceList}
 use Rattle.price_law.proofs.Excluded.{sharp_excludes}
 use Rattle.price_law.proofs.ListSums.{sharp_floors}
-use Rattle.price_lists.specs.Owned.{AreKeys, IsFit}
-use Rattle.price_lists.specs.Stated.{AreDue, AreStated}
-use Rattle.price_lists.proofs.Fit.{lists_fit}
+use Rattle.price_check.specs.Owned.{AreKeys, IsFit}
+use Rattle.price_check.specs.Stated.{AreDue, AreStated}
+use Rattle.price_check.proofs.Fit.{lists_fit}
 
 -- lists that fit their purpose charge what is due
 fair_each : (sheet : Sheet) (lists : List PriceList) → AllByRecursion (IsFit sheet) lists

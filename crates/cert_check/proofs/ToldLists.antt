@@ -19,7 +19,7 @@ use Rattle.cert_text.proofs.HeadBacks.{heads_are_one}
 use Rattle.fux_grid.specs.declared.exercise.Exercise.{Exercise}
 use Rattle.fux_grid.specs.Exercises.{IsValid}
 use Rattle.penalty_sheet.specs.declared.sheet.Sheet.{Sheet}
-use Rattle.price_lists.specs.Stated.{first_high}
+use Rattle.price_check.specs.Stated.{first_high}
 use Rattle.price_text.specs.Lists.{AreLists, lists_in, lists_text, most_lines}
 use Rattle.price_text.specs.PriceLines.{Line}
 use Rattle.price_text.proofs.WholeLists.{lists_are_read}

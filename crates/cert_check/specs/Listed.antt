@@ -14,7 +14,7 @@ use Rattle.fux_grid.specs.declared.exercise.Exercise.{Exercise}
 use Rattle.penalty_sheet.specs.declared.sheet.Sheet.{Sheet}
 use Rattle.priced_paths.specs.declared.states.WebFault.{WebFault}
 use Rattle.priced_paths.specs.declared.states.WebFault.TheVariants as woven
-use Rattle.price_lists.specs.Stated.{AreDue, first_high}
+use Rattle.price_check.specs.Stated.{AreDue, first_high}
 use Rattle.price_text.specs.Lists.{AreLists, lists_in, lists_text}
 use Rattle.price_text.specs.PriceLines.{Line}
 

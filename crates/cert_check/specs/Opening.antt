@@ -22,7 +22,7 @@ use Rattle.penalty_sheet.specs.declared.sheet.Sheet.{Sheet}
 use Rattle.price_check.specs.declared.sharp_case.SharpKnown.{SharpKnown}
 use Rattle.price_check.specs.Sharps as sharp
 use Rattle.price_check.specs.Sharps.{ExcludesRefuting, IsSharpKnown, Sharp}
-use Rattle.price_lists.specs.Stated.{AreDue}
+use Rattle.price_check.specs.Stated.{AreDue}
 
 -- a fault tells its cause: the first menu that is too wide; or, where none is, a head that isn't
 -- sound, refused before any claim

@@ -32,7 +32,7 @@ use Rattle.fux_grid.specs.declared.exercise.Exercise.{Exercise}
 use Rattle.fux_port.specs.Files.{HasFile}
 use Rattle.penalty_sheet.specs.declared.sheet.Sheet.{Sheet}
 use Rattle.price_check.specs.Statements.{HasLargeStated, stated_tree}
-use Rattle.price_lists.specs.Stated.{AreDue, first_high}
+use Rattle.price_check.specs.Stated.{AreDue, first_high}
 use Rattle.price_text.specs.Lists.{AreLists, lists_in, lists_text}
 use Rattle.price_text.specs.PriceLines.{Line}
 

@@ -27,8 +27,9 @@ use fux_grid::Exercise;
 use fux_port::{Failed, Shelf};
 use menu_tails::MenuTails;
 use penalty_sheet::Sheet;
-use price_check::{SharpCase, list_floors, list_numbers, priced_lists, webs_of};
-use price_lists::{first_high, lists_stated};
+use price_check::{
+    SharpCase, first_high, list_floors, list_numbers, lists_stated, priced_lists, webs_of,
+};
 use price_text::{ListsFault, PriceLine, lists_in};
 use species_space::SpeciesSpace;
 use std::alloc::Global;

@@ -5,8 +5,8 @@ ghost use Rattle.std.specs.List.{AllByRecursion};
 ghost use Rattle.cert_check.specs.Opening.{IsSharpChecking, opened_for};
 ghost use Rattle.cert_check.specs.Settings.{IsSound, Lists};
 ghost use Rattle.cert_law.specs.Rests.{HasSmallWeights};
-ghost use Rattle.price_lists.specs.Owned.{AreKeys};
-ghost use Rattle.price_lists.specs.Stated.{AreDue};
+ghost use Rattle.price_check.specs.Owned.{AreKeys};
+ghost use Rattle.price_check.specs.Stated.{AreDue};
 
 use crate::head::accepted_by;
 use cert_file::{Checks, refused_by};

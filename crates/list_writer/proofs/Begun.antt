@@ -7,7 +7,7 @@ use Rattle.std.specs.List.{AllByRecursion}
 use Rattle.fux_grid.specs.declared.exercise.Exercise.{Exercise}
 use Rattle.penalty_sheet.specs.declared.sheet.Sheet.{Sheet}
 use Rattle.penalty_sheet.specs.Weights.{weight_of}
-use Rattle.price_lists.specs.Stated.{first_above, prices_in}
+use Rattle.price_check.specs.Stated.{first_above, prices_in}
 use Rattle.price_text.specs.declared.line.Before.{Before}
 use Rattle.price_text.specs.declared.line.PriceLine.{PriceLine}
 use Rattle.price_text.specs.Lists.{AreLinesOf, is_last}

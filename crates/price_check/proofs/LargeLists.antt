@@ -10,9 +10,9 @@ use Rattle.price_check.specs.Statements.{HasLargeStated, kept_by}
 use Rattle.price_check.specs.Woven.{AreOf, HasLargeWeb, IsLargeWeb, list_priced}
 use Rattle.price_check.specs.declared.priced_list.PricedList.{PricedList}
 use Rattle.price_law.specs.PriceLists.{PriceList}
-use Rattle.price_lists.specs.declared.stated.OwnList.{OwnList}
-use Rattle.price_lists.specs.Owned.{list_owned}
-use Rattle.price_lists.specs.Stated.{AreEachStated, AreStated, StatedList, lists_of}
+use Rattle.price_check.specs.declared.stated.OwnList.{OwnList}
+use Rattle.price_check.specs.Owned.{list_owned}
+use Rattle.price_check.specs.Stated.{AreEachStated, AreStated, StatedList, lists_of}
 use Rattle.price_text.specs.PriceLines.{Line}
 
 stated-one : (x y : StatedList) → Some x ≡ Some y → x ≡ y

@@ -4,3 +4,8 @@ pub mod Pushed
 pub mod Webs
 pub mod Found
 pub mod LargeLists
+pub mod Told
+pub mod Bounds
+pub mod Keys
+pub mod Fit
+pub mod SameFloors

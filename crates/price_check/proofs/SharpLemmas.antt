@@ -33,8 +33,8 @@ use Rattle.price_law.specs.Certificates.{IsSharpTrueOf}
 use Rattle.price_law.specs.PriceLists.{PriceList, case_in, numbers_from, path_of, sharp_floor}
 use Rattle.price_law.specs.Truths.{sharp_first_claim, sharp_unbroken}
 use Rattle.price_law.proofs.Ways.{numbers_from-append}
-use Rattle.price_lists.specs.Laws.{StatedFloorsAreOne}
-use Rattle.price_lists.specs.Stated.{AreStated}
+use Rattle.price_check.specs.Laws.{StatedFloorsAreOne}
+use Rattle.price_check.specs.Stated.{AreStated}
 use Rattle.price_text.specs.PriceLines.{Line}
 use Rattle.priced_paths.specs.Stands.{StandsAt}
 use Rattle.price_check.specs.declared.floors.ListFloor.{ListFloor}

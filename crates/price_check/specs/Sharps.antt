@@ -22,7 +22,7 @@ use Rattle.price_check.specs.Floors.{AreFor, list_of}
 use Rattle.price_check.specs.Statements.{IsStatedTrueOf, stated_tree}
 use Rattle.price_law.specs.PriceLists.{PriceList, case_in, path_of, sharp_tail}
 use Rattle.price_law.specs.Truths.{sharp_first_claim}
-use Rattle.price_lists.specs.Stated.{AreStated}
+use Rattle.price_check.specs.Stated.{AreStated}
 use Rattle.price_text.specs.PriceLines.{Line}
 
 -- a list, and the web in which its numbers were worked

@@ -13,7 +13,7 @@ use Rattle.penalty_sheet.specs.declared.sheet.Sheet.{Sheet}
 use Rattle.price_check.specs.Woven.{IsLargeWeb}
 use Rattle.price_law.specs.Certificates.{IsSharpTrueOf}
 use Rattle.price_law.specs.PriceLists.{PriceList}
-use Rattle.price_lists.specs.Stated.{AreStated, StatedList, lists_of}
+use Rattle.price_check.specs.Stated.{AreStated, StatedList, lists_of}
 use Rattle.price_text.specs.PriceLines.{Line}
 
 -- a claim is true of a prefix by the lists that lines state

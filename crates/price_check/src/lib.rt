@@ -4,12 +4,16 @@
 #![tactic(auto)]
 
 mod floors;
+mod list_law;
 mod priced_list;
 mod sharp_case;
+mod stated;
 mod woven;
 
-pub use floors::{ListFloor, MOST_LISTS, first_places, next_places, tail_by};
+pub use floors::{ListFloor, MOST_LISTS};
+pub use list_law::lists_are_fit;
 pub use priced_list::PricedList;
 pub use priced_paths::WebFault;
 pub use sharp_case::{SharpCase, SharpKnown};
+pub use stated::{OwnList, first_high, lists_stated};
 pub use woven::{list_floors, list_numbers, priced_lists, webs_of};

@@ -8,7 +8,7 @@ ghost use Rattle.cert_tree.specs.Walks.{IsBehind};
 ghost use Rattle.price_check.specs.Floors.{AreFor, list_of};
 ghost use Rattle.price_check.specs.Sharps.{IsSharpKnown, IsStepOf, lists_in, own_in, tree_in, webbed};
 ghost use Rattle.price_check.specs.declared.floors.TheConstants.{MOST_LISTS};
-ghost use Rattle.price_lists.specs.Stated.{AreStated};
+ghost use Rattle.price_check.specs.Stated.{AreStated};
 ghost use Rattle.price_text.specs.PriceLines.{line_of};
 
 use crate::floors::{ListFloor, MOST_LISTS, first_places, next_places, tail_by};

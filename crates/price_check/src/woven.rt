@@ -7,14 +7,14 @@ ghost use Rattle.price_check.specs.Woven.{AreCaseNumbers, AreEachNumbers, AreNum
 ghost use Rattle.price_check.specs.Woven as words;
 ghost use Rattle.price_check.specs.declared.priced_list.PricedList.{PricedList as APriced};
 ghost use Rattle.floor_tables.specs.Tables.{Task};
-ghost use Rattle.price_lists.specs.Owned.{IsFit, list_owned};
+ghost use Rattle.price_check.specs.Owned.{IsFit, list_owned};
 ghost use Rattle.priced_paths.specs.declared.states.WebFault.TheVariants.{TooLarge as too_large};
 
 use crate::floors::ListFloor;
 use crate::priced_list::PricedList;
+use crate::stated::OwnList;
 use fux_pitch::{List as Numbers, Memory};
 use open_ends::{Keeps, Pairs};
-use price_lists::OwnList;
 use priced_floors::{Kept, PricedSpace};
 use priced_paths::{PathSums, Pricing, Web, WebFault, numbers_in, whole_web};
 use rayon::prelude::*;

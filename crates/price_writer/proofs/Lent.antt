@@ -12,9 +12,9 @@ use Rattle.priced_paths.specs.declared.states.WebFault.TheVariants as webs
 use Rattle.price_check.specs.Floors.{list_of}
 use Rattle.price_check.specs.Woven.{AreEachNumbers, AreWebs, list_priced}
 use Rattle.price_law.specs.PriceLists.{PriceList}
-use Rattle.price_lists.specs.declared.stated.OwnList.{OwnList}
-use Rattle.price_lists.specs.Owned.{list_owned}
-use Rattle.price_lists.specs.Stated.{AreStated}
+use Rattle.price_check.specs.declared.stated.OwnList.{OwnList}
+use Rattle.price_check.specs.Owned.{list_owned}
+use Rattle.price_check.specs.Stated.{AreStated}
 use Rattle.price_text.specs.PriceLines.{Line}
 use Rattle.priced_floors.specs.declared.kept.Kept.{Kept}
 use Rattle.priced_paths.specs.declared.web.Web.{Web}

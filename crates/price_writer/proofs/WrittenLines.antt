@@ -29,7 +29,7 @@ use Rattle.price_check.specs.Statements.{HasLargeStated, stated_tree}
 use Rattle.price_law.specs.Certificates.{sharp_tree}
 use Rattle.price_law.specs.PriceLists.{PriceList, sharp_floor}
 use Rattle.price_law.specs.Truths.{sharp_first_claim, sharp_unbroken}
-use Rattle.price_lists.specs.Stated.{AreEachStated, AreStated, StatedList, lists_of}
+use Rattle.price_check.specs.Stated.{AreEachStated, AreStated, StatedList, lists_of}
 use Rattle.price_text.proofs.WholeLists.{lists_few}
 use Rattle.price_text.specs.declared.line.Before.{Before}
 use Rattle.price_text.specs.Lists.{AreLinesOf, AreLists, lists_text}

@@ -21,8 +21,9 @@ use fux_pitch::Memory;
 use fux_port::Sink;
 use list_writer::{least_lines, lines_within, text_behind};
 use menu_tails::MenuTails;
-use price_check::{SharpCase, list_floors, list_numbers, priced_lists, webs_of};
-use price_lists::{lists_are_fit, lists_stated};
+use price_check::{
+    SharpCase, list_floors, list_numbers, lists_are_fit, lists_stated, priced_lists, webs_of,
+};
 use price_rounds::tuned_prices;
 use price_text::PriceLine;
 use species_space::SpeciesSpace;

@@ -23,11 +23,11 @@ use Rattle.price_check.specs.declared.floors.ListFloor.{ListFloor}
 use Rattle.price_check.specs.Floors.{AreFor, list_of}
 use Rattle.price_check.specs.Sharps.{Sharp}
 use Rattle.price_check.specs.Woven.{AreOf, list_priced}
-use Rattle.price_lists.specs.declared.stated.OwnList.{OwnList}
-use Rattle.price_lists.specs.Owned.{AreKeys, IsFit, list_owned}
-use Rattle.price_lists.specs.Stated.{AreDue, AreStated}
-use Rattle.price_lists.proofs.Fit.{lists_fit}
-use Rattle.price_lists.proofs.Keys.{lists_have_keys}
+use Rattle.price_check.specs.declared.stated.OwnList.{OwnList}
+use Rattle.price_check.specs.Owned.{AreKeys, IsFit, list_owned}
+use Rattle.price_check.specs.Stated.{AreDue, AreStated}
+use Rattle.price_check.proofs.Fit.{lists_fit}
+use Rattle.price_check.proofs.Keys.{lists_have_keys}
 use Rattle.price_text.specs.PriceLines.{line_of}
 use Rattle.cert_check.proofs.priced.judge_lists.Goals as goal
 

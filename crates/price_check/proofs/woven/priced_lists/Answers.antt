@@ -5,8 +5,8 @@ use Rattle.price_check.specs.declared.priced_list.PricedList.{PricedList}
 use Rattle.price_check.specs.Woven.{AreOf, list_priced}
 use Rattle.price_check.proofs.Pushed.{each_at, each_pushed}
 use Rattle.price_law.specs.PriceLists.{PriceList}
-use Rattle.price_lists.specs.declared.stated.OwnList.{OwnList}
-use Rattle.price_lists.specs.Owned.{IsFit, list_owned}
+use Rattle.price_check.specs.declared.stated.OwnList.{OwnList}
+use Rattle.price_check.specs.Owned.{IsFit, list_owned}
 use Rattle.price_check.proofs.woven.priced_lists.Goals as goal
 
 pub priced_list-requires : goal.priced_list-requires

@@ -1,7 +1,7 @@
 use Rattle.std.proofs.Common.{◌≡◌, ◌≤◌, length, map, take}
 use Rattle.std.specs.Prelude.{vec_capacity}
 use Rattle.price_check.specs.Woven.{AreOf, list_priced}
-use Rattle.price_lists.specs.Owned.{list_owned}
+use Rattle.price_check.specs.Owned.{list_owned}
 use Rattle.price_check.proofs.woven.priced_lists.Given as goal
 
 abbrev pub invariant-loop-k : goal.invariant-loop-k

@@ -13,8 +13,8 @@ use Rattle.price_check.specs.declared.floors.ListFloor.{ListFloor}
 use Rattle.price_check.specs.declared.priced_list.PricedList.{PricedList}
 use Rattle.price_check.specs.Floors.{AreFor, list_of}
 use Rattle.price_check.specs.Woven.{AreOf, list_priced}
-use Rattle.price_lists.specs.declared.stated.OwnList.{OwnList}
-use Rattle.price_lists.specs.Owned.{IsFit, list_owned}
+use Rattle.price_check.specs.declared.stated.OwnList.{OwnList}
+use Rattle.price_check.specs.Owned.{IsFit, list_owned}
 use Rattle.price_text.specs.Lists.{lists_text}
 use Rattle.price_text.specs.PriceLines.{line_of}
 use Rattle.price_writer.proofs.Lent.{floors_stated, large_web, same_numbers, same_webs}

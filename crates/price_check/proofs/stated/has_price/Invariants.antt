@@ -1,0 +1,8 @@
+use Rattle.std.proofs.Common.{◌≡◌, map, drop}
+use Rattle.price_text.specs.PriceLines.{line_of}
+use Rattle.price_check.specs.Stated.{some_told, first_told}
+use Rattle.price_check.proofs.stated.has_price.Given as goal
+
+abbrev pub invariant-loop-line : goal.invariant-loop-line
+invariant-loop-line l =
+    first_told some_told (map line_of l.lines) ≡ first_told some_told (map line_of (drop l.line-index l.lines))

@@ -1,0 +1,9 @@
+use Rattle.std.proofs.Common.{◌≡◌, map, drop}
+use Rattle.price_text.specs.PriceLines.{line_of}
+use Rattle.price_check.specs.Stated.{price_told, first_told}
+use Rattle.price_check.proofs.stated.price_at.Given as goal
+
+abbrev pub invariant-loop-line : goal.invariant-loop-line
+invariant-loop-line l =
+    first_told (price_told l.case l.voice l.place) (map line_of l.lines)
+    ≡ first_told (price_told l.case l.voice l.place) (map line_of (drop l.line-index l.lines))

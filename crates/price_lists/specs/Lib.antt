@@ -1,3 +1,0 @@
-pub mod Stated
-pub mod Owned
-pub mod Laws
