@@ -15,10 +15,10 @@ use Rattle.cert_tree.specs.Trees.{Excludes}
 use Rattle.fux_grid.specs.declared.cell.Cell.{Cell}
 use Rattle.penalty_sheet.specs.declared.sheet.Sheet.{Sheet}
 use Rattle.price_check.specs.Sharps.{ExcludesRefuting, RefutesExcluded, Sharp}
-use Rattle.price_law.specs.Certificates.{IsFairList, sharp_tree}
-use Rattle.price_law.specs.PriceLists.{PriceList}
-use Rattle.price_law.proofs.Excluded.{sharp_excludes}
-use Rattle.price_law.proofs.ListSums.{sharp_floors}
+use Rattle.price_check.specs.Certificates.{IsFairList, sharp_tree}
+use Rattle.price_check.specs.PriceLists.{PriceList}
+use Rattle.price_check.proofs.Excluded.{sharp_excludes}
+use Rattle.price_check.proofs.ListSums.{sharp_floors}
 use Rattle.price_check.specs.Owned.{AreKeys, IsFit}
 use Rattle.price_check.specs.Stated.{AreDue, AreStated}
 use Rattle.price_check.proofs.Fit.{lists_fit}

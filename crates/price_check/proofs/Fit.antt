@@ -5,8 +5,8 @@ use Rattle.std.proofs.lemmas.Bool.{and_from, and_parts, cases_lt, le-leb}
 use Rattle.cert_law.specs.Rests.{HasSmallWeights}
 use Rattle.penalty_sheet.specs.declared.sheet.Sheet.{Sheet}
 use Rattle.penalty_sheet.specs.Weights.{weight_of}
-use Rattle.price_law.specs.Certificates.{ChargesNothing}
-use Rattle.price_law.specs.PriceLists.{PriceList}
+use Rattle.price_check.specs.Certificates.{ChargesNothing}
+use Rattle.price_check.specs.PriceLists.{PriceList}
 use Rattle.price_check.specs.Owned.{AreKeys, IsFit}
 use Rattle.price_check.specs.Laws.{ListsFit}
 use Rattle.price_check.specs.Stated.{AreEachStated, IsStated, StatedList, cases_of, first_above, has_no_keys, has_price, lists_of, price_at, prices_in, summits_from}

@@ -9,7 +9,7 @@ use Rattle.penalty_sheet.specs.declared.sheet.Sheet.{Sheet}
 use Rattle.price_check.specs.Statements.{HasLargeStated, kept_by}
 use Rattle.price_check.specs.Woven.{AreOf, HasLargeWeb, IsLargeWeb, list_priced}
 use Rattle.price_check.specs.declared.priced_list.PricedList.{PricedList}
-use Rattle.price_law.specs.PriceLists.{PriceList}
+use Rattle.price_check.specs.PriceLists.{PriceList}
 use Rattle.price_check.specs.declared.stated.OwnList.{OwnList}
 use Rattle.price_check.specs.Owned.{list_owned}
 use Rattle.price_check.specs.Stated.{AreEachStated, AreStated, StatedList, lists_of}

@@ -9,3 +9,7 @@ pub mod Bounds
 pub mod Keys
 pub mod Fit
 pub mod SameFloors
+pub mod Ways
+pub mod ListSums
+pub mod Excluded
+pub mod TailTruths

@@ -15,8 +15,8 @@ use Rattle.priced_paths.specs.LeastRests.{least_sum}
 use Rattle.penalty_sheet.specs.declared.sheet.Sheet.{Sheet}
 use Rattle.price_check.specs.declared.floors.ListFloor.{ListFloor}
 use Rattle.price_check.specs.Floors.{StandsIn, exercise_of, list_of, sheet_of}
-use Rattle.price_law.specs.PriceLists.{PriceList, case_in, charged_sum, greatest_sum, least_on, list_sum, paid_on, path_of, sharp_floor, sharp_tail, spent_by, spent_of}
-use Rattle.price_law.proofs.Ways.{way_back}
+use Rattle.price_check.specs.PriceLists.{PriceList, case_in, charged_sum, greatest_sum, least_on, list_sum, paid_on, path_of, sharp_floor, sharp_tail, spent_by, spent_of}
+use Rattle.price_check.proofs.Ways.{way_back}
 use Rattle.priced_floors.specs.declared.charges.Charges.{Charges}
 use Rattle.priced_floors.specs.Kept.{kept_of, step_of}
 use Rattle.priced_floors.specs.PricedLaws.{breadth_of}

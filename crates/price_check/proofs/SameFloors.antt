@@ -12,7 +12,7 @@ use Rattle.fux_judge.specs.Gauges.{free_voices}
 use Rattle.open_ends.specs.declared.keeps.Keeps.{Keeps}
 use Rattle.priced_paths.specs.LeastRests.{least_sum}
 use Rattle.penalty_sheet.specs.declared.sheet.Sheet.{Sheet}
-use Rattle.price_law.specs.PriceLists.{PriceList, case_in, charged_sum, greatest_sum, least_on, list_sum, paid_on, path_of, sharp_floor, spent_by, spent_of}
+use Rattle.price_check.specs.PriceLists.{PriceList, case_in, charged_sum, greatest_sum, least_on, list_sum, paid_on, path_of, sharp_floor, spent_by, spent_of}
 use Rattle.price_check.specs.Laws.{StatedFloorsAreOne}
 use Rattle.price_check.specs.Stated.{AreEachStated, IsStated, StatedList, lists_of}
 use Rattle.priced_floors.specs.declared.charges.Charges.{Charges}

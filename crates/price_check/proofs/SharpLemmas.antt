@@ -29,10 +29,10 @@ use Rattle.penalty_sheet.specs.declared.sheet.Sheet.{Sheet}
 use Rattle.price_check.specs.declared.sharp_case.SharpKnown.{SharpKnown}
 use Rattle.price_check.specs.Sharps.{IsSharpKnown, IsStepOf, Sharp, StandIn, Webbed, plain_of, tree_in, webbed}
 use Rattle.price_check.specs.Statements.{IsStatedTrueOf}
-use Rattle.price_law.specs.Certificates.{IsSharpTrueOf}
-use Rattle.price_law.specs.PriceLists.{PriceList, case_in, numbers_from, path_of, sharp_floor}
-use Rattle.price_law.specs.Truths.{sharp_first_claim, sharp_unbroken}
-use Rattle.price_law.proofs.Ways.{numbers_from-append}
+use Rattle.price_check.specs.Certificates.{IsSharpTrueOf}
+use Rattle.price_check.specs.PriceLists.{PriceList, case_in, numbers_from, path_of, sharp_floor}
+use Rattle.price_check.specs.Truths.{sharp_first_claim, sharp_unbroken}
+use Rattle.price_check.proofs.Ways.{numbers_from-append}
 use Rattle.price_check.specs.Laws.{StatedFloorsAreOne}
 use Rattle.price_check.specs.Stated.{AreStated}
 use Rattle.price_text.specs.PriceLines.{Line}

@@ -8,7 +8,7 @@ use Rattle.std.proofs.lemmas.List.{drop_more, take_all}
 use Rattle.price_text.specs.declared.line.PriceLine.{PriceLine}
 use Rattle.price_text.specs.declared.line.PriceLine.TheVariants as own
 use Rattle.price_text.specs.PriceLines.{Cases, Claims, Keeps, Line, Price, line_of}
-use Rattle.price_law.specs.PriceLists.{PriceList}
+use Rattle.price_check.specs.PriceLists.{PriceList}
 use Rattle.penalty_sheet.specs.declared.sheet.Sheet.{Sheet}
 use Rattle.price_check.specs.Owned.{AreKeys}
 use Rattle.price_check.specs.Stated.{AreEachStated, IsStated, and_more, cases_of, first_told, first_above, has_no_keys, lists_of, or_later, price_in, prices_in}

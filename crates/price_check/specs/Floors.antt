@@ -4,7 +4,7 @@ use Rattle.fux_grid.specs.declared.exercise.Exercise.{Exercise}
 use Rattle.priced_paths.specs.Stands.{StandsAt}
 use Rattle.penalty_sheet.specs.declared.sheet.Sheet.{Sheet}
 use Rattle.price_check.specs.declared.floors.ListFloor.{ListFloor}
-use Rattle.price_law.specs.PriceLists.{PriceList, case_in}
+use Rattle.price_check.specs.PriceLists.{PriceList, case_in}
 use Rattle.priced_paths.specs.declared.guide.Place.{Place}
 
 -- the exercise and the sheet for which a list is, and the list

@@ -5,7 +5,7 @@ use Rattle.cert_law.specs.Rests.{HasSmallWeights}
 use Rattle.fux_grid.specs.declared.cell.Cell.{Cell}
 use Rattle.fux_grid.specs.declared.exercise.Exercise.{Exercise}
 use Rattle.penalty_sheet.specs.declared.sheet.Sheet.{Sheet}
-use Rattle.price_law.specs.PriceLists.{PriceList, sharp_floor}
+use Rattle.price_check.specs.PriceLists.{PriceList, sharp_floor}
 use Rattle.price_check.specs.Owned.{AreKeys, IsFit}
 use Rattle.price_check.specs.Stated.{AreDue, AreStated}
 use Rattle.price_text.specs.Lists.{AreLists}

@@ -5,3 +5,6 @@ pub mod Woven
 pub mod Stated
 pub mod Owned
 pub mod Laws
+pub mod PriceLists
+pub mod Certificates
+pub mod Truths

@@ -20,8 +20,8 @@ use Rattle.priced_paths.specs.declared.web.Web.{Web}
 use Rattle.fux_grid.specs.declared.exercise.Exercise.{Exercise}
 use Rattle.price_check.specs.Floors.{AreFor, list_of}
 use Rattle.price_check.specs.Statements.{IsStatedTrueOf, stated_tree}
-use Rattle.price_law.specs.PriceLists.{PriceList, case_in, path_of, sharp_tail}
-use Rattle.price_law.specs.Truths.{sharp_first_claim}
+use Rattle.price_check.specs.PriceLists.{PriceList, case_in, path_of, sharp_tail}
+use Rattle.price_check.specs.Truths.{sharp_first_claim}
 use Rattle.price_check.specs.Stated.{AreStated}
 use Rattle.price_text.specs.PriceLines.{Line}
 

@@ -6,7 +6,7 @@ use Rattle.melody_rules.specs.GaugeParts.{place_in}
 use Rattle.open_ends.specs.Choices.{keeps_of}
 use Rattle.penalty_sheet.specs.declared.sheet.Sheet.{Sheet}
 use Rattle.penalty_sheet.specs.Weights.{weight_of}
-use Rattle.price_law.specs.PriceLists.{PriceList}
+use Rattle.price_check.specs.PriceLists.{PriceList}
 use Rattle.price_text.specs.PriceLines.{Cases, Claims, Keeps, Line, Price}
 use Rattle.priced_floors.specs.declared.charges.TheConstants.{SCALE}
 use Rattle.priced_floors.specs.declared.prices.Prices.{Prices}

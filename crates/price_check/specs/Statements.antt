@@ -11,8 +11,8 @@ use Rattle.open_ends.specs.Choices.{keeps_of}
 use Rattle.open_ends.specs.declared.keeps.Keeps.{Keeps}
 use Rattle.penalty_sheet.specs.declared.sheet.Sheet.{Sheet}
 use Rattle.price_check.specs.Woven.{IsLargeWeb}
-use Rattle.price_law.specs.Certificates.{IsSharpTrueOf}
-use Rattle.price_law.specs.PriceLists.{PriceList}
+use Rattle.price_check.specs.Certificates.{IsSharpTrueOf}
+use Rattle.price_check.specs.PriceLists.{PriceList}
 use Rattle.price_check.specs.Stated.{AreStated, StatedList, lists_of}
 use Rattle.price_text.specs.PriceLines.{Line}
 

@@ -8,7 +8,7 @@ use Rattle.open_ends.specs.declared.keeps.Pairs.{Pairs}
 use Rattle.penalty_sheet.specs.declared.sheet.Sheet.{Sheet}
 use Rattle.floor_tables.specs.Tables.{Task}
 use Rattle.price_check.specs.declared.priced_list.PricedList.{PricedList}
-use Rattle.price_law.specs.PriceLists.{PriceList, case_in}
+use Rattle.price_check.specs.PriceLists.{PriceList, case_in}
 use Rattle.priced_floors.specs.declared.kept.Kept.{Kept}
 use Rattle.priced_floors.specs.declared.pricing.PricedSpace.{PricedSpace}
 use Rattle.priced_floors.specs.Kept.{kept_of, step_of}

@@ -8,8 +8,8 @@ ghost use Rattle.floor_graphs.specs.Sharper as sharper;
 ghost use Rattle.fux_judge.specs.Gauges.{least_of};
 ghost use Rattle.fux_judge.specs.Penalties as penalties;
 ghost use Rattle.price_check.specs.Floors.{AreFor, ArePlaces, HasPath, HavePath, StandsIn, exercise_of, list_of, sheet_of};
-ghost use Rattle.price_law.specs.PriceLists as words;
-ghost use Rattle.price_law.specs.PriceLists.{list_sum, path_of, sharp_tail};
+ghost use Rattle.price_check.specs.PriceLists as words;
+ghost use Rattle.price_check.specs.PriceLists.{list_sum, path_of, sharp_tail};
 ghost use Rattle.rule_law.specs.Prefixes.{IsPrefix};
 
 use cert_law::Judged;

@@ -1,10 +1,12 @@
-//! How certificates of the third form are judged by the tail of a prefix: lists with the webs in
-//! which their numbers were worked, the greatest of the sums of several lists, and a case with lists
-//! as a tree of claims. It knows nothing of the search.
+//! Certificates of the third form, which state prices: what a list of prices says of a prefix, what
+//! a valid certificate is, and that what its head says holds; the lists that lines state, with the
+//! webs in which their numbers are worked; and how claims are judged by the tail that lists give a
+//! prefix. It knows nothing of the search.
 #![tactic(auto)]
 
 mod floors;
 mod list_law;
+mod price_law;
 mod priced_list;
 mod sharp_case;
 mod stated;
@@ -12,6 +14,7 @@ mod woven;
 
 pub use floors::{ListFloor, MOST_LISTS};
 pub use list_law::lists_are_fit;
+pub use price_law::{lists_give_floors, shown_by_prices, tails_give_floors, tails_tell_truth};
 pub use priced_list::PricedList;
 pub use priced_paths::WebFault;
 pub use sharp_case::{SharpCase, SharpKnown};

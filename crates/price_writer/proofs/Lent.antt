@@ -11,7 +11,7 @@ use Rattle.priced_paths.specs.declared.states.WebFault.{WebFault}
 use Rattle.priced_paths.specs.declared.states.WebFault.TheVariants as webs
 use Rattle.price_check.specs.Floors.{list_of}
 use Rattle.price_check.specs.Woven.{AreEachNumbers, AreWebs, list_priced}
-use Rattle.price_law.specs.PriceLists.{PriceList}
+use Rattle.price_check.specs.PriceLists.{PriceList}
 use Rattle.price_check.specs.declared.stated.OwnList.{OwnList}
 use Rattle.price_check.specs.Owned.{list_owned}
 use Rattle.price_check.specs.Stated.{AreStated}

@@ -31,10 +31,10 @@ use Rattle.fux_judge.specs.Lawful.{IsLawful}
 use Rattle.fux_judge.specs.Penalties.{has_strict_break, penalty_of}
 use Rattle.fux_judge.specs.Rules.{rules_read}
 use Rattle.penalty_sheet.specs.declared.sheet.Sheet.{Sheet}
-use Rattle.price_law.specs.Certificates.{IsFairList, IsSharpCertificate, IsSharpTrueOf, sharp_tree}
-use Rattle.price_law.specs.PriceLists.{PriceList, sharp_floor, sharp_tail, spent_of}
-use Rattle.price_law.specs.Truths.{sharp_first_claim, sharp_unbroken}
-use Rattle.price_law.proofs.ListSums.{tails_give_floors}
+use Rattle.price_check.specs.Certificates.{IsFairList, IsSharpCertificate, IsSharpTrueOf, sharp_tree}
+use Rattle.price_check.specs.PriceLists.{PriceList, sharp_floor, sharp_tail, spent_of}
+use Rattle.price_check.specs.Truths.{sharp_first_claim, sharp_unbroken}
+use Rattle.price_check.proofs.ListSums.{tails_give_floors}
 use Rattle.price_writer.specs.Laws.{priced_claims}
 use Rattle.rule_law.specs.Prefixes.{IsPrefix, IsSetting}
 

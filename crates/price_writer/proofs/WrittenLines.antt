@@ -26,9 +26,9 @@ use Rattle.list_writer.specs.Stating.{FitBehind}
 use Rattle.penalty_sheet.specs.declared.sheet.Sheet.{Sheet}
 use Rattle.price_check.specs.Sharps.{Sharp, lists_in, own_in, tree_in}
 use Rattle.price_check.specs.Statements.{HasLargeStated, stated_tree}
-use Rattle.price_law.specs.Certificates.{sharp_tree}
-use Rattle.price_law.specs.PriceLists.{PriceList, sharp_floor}
-use Rattle.price_law.specs.Truths.{sharp_first_claim, sharp_unbroken}
+use Rattle.price_check.specs.Certificates.{sharp_tree}
+use Rattle.price_check.specs.PriceLists.{PriceList, sharp_floor}
+use Rattle.price_check.specs.Truths.{sharp_first_claim, sharp_unbroken}
 use Rattle.price_check.specs.Stated.{AreEachStated, AreStated, StatedList, lists_of}
 use Rattle.price_text.proofs.WholeLists.{lists_few}
 use Rattle.price_text.specs.declared.line.Before.{Before}

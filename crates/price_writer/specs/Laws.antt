@@ -8,9 +8,9 @@ use Rattle.cert_tree.specs.Trees.{AreTrueFrom, claims_from}
 use Rattle.fux_grid.specs.declared.exercise.Exercise.{Exercise}
 use Rattle.fux_grid.specs.Exercises.{IsValid, columns_in}
 use Rattle.penalty_sheet.specs.declared.sheet.Sheet.{Sheet}
-use Rattle.price_law.specs.Certificates.{IsFairList, IsSharpCertificate, sharp_tree}
-use Rattle.price_law.specs.PriceLists.{PriceList}
-use Rattle.price_law.specs.Truths.{sharp_first_claim}
+use Rattle.price_check.specs.Certificates.{IsFairList, IsSharpCertificate, sharp_tree}
+use Rattle.price_check.specs.PriceLists.{PriceList}
+use Rattle.price_check.specs.Truths.{sharp_first_claim}
 
 -- the claims that are written: of each prefix that is owed the first one that is true of it
 abbrev pub priced_claims : Exercise → Sheet → CertHead → List PriceList → List Claim

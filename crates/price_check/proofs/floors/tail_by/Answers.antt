@@ -4,7 +4,7 @@ use Rattle.std.proofs.lemmas.Option.{slice_get_read}
 use Rattle.floor_graphs.specs.Sharper.{greater}
 use Rattle.price_check.specs.Floors.{list_of}
 use Rattle.price_check.proofs.Places.{drop_end, sum_for, tail_told}
-use Rattle.price_law.specs.PriceLists.{greatest_sum, list_sum}
+use Rattle.price_check.specs.PriceLists.{greatest_sum, list_sum}
 use Rattle.price_check.proofs.floors.tail_by.Goals as goal
 
 pub loop-turn-init : goal.loop-turn-init

@@ -3,7 +3,7 @@ use Rattle.cert_law.specs.Cases.{Matter}
 use Rattle.cert_law.specs.Prefixes.{IsJudged}
 use Rattle.fux_grid.specs.declared.cell.Cell.{Cell}
 use Rattle.price_check.specs.Floors.{AreFor, ArePlaces, list_of}
-use Rattle.price_law.specs.PriceLists.{greatest_sum, path_of}
+use Rattle.price_check.specs.PriceLists.{greatest_sum, path_of}
 use Rattle.price_check.proofs.floors.tail_by.Given as goal
 
 -- the greatest of the sums of the last lists, so many

@@ -2,7 +2,7 @@ use Rattle.std.proofs.Common.{◌≡◌, ◌+◌, ◌++◌, ◌∷◌, [], List,
 use Rattle.std.proofs.lemmas.List.{map-append}
 use Rattle.price_check.specs.declared.stated.OwnList.{OwnList}
 use Rattle.price_text.specs.PriceLines.{line_of}
-use Rattle.price_law.specs.PriceLists.{PriceList}
+use Rattle.price_check.specs.PriceLists.{PriceList}
 use Rattle.price_check.specs.Owned.{list_owned}
 use Rattle.price_check.specs.Stated.{AreEachStated, lists_of}
 use Rattle.price_check.proofs.Told.{keys_from, list_later, list_next, none_left}

@@ -1,6 +1,6 @@
 use Rattle.std.proofs.Common.{ap}
 use Rattle.price_check.proofs.Webs.{web_is}
-use Rattle.price_law.specs.PriceLists.{PriceList}
+use Rattle.price_check.specs.PriceLists.{PriceList}
 use Rattle.priced_floors.specs.declared.pricing.PricedSpace.{PricedSpace}
 use Rattle.price_check.proofs.woven.floor_of.Goals as goal
 

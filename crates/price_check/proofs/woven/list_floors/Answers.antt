@@ -8,7 +8,7 @@ use Rattle.price_check.specs.declared.priced_list.PricedList.{PricedList}
 use Rattle.price_check.specs.Floors.{AreFor, exercise_of, list_of, sheet_of}
 use Rattle.price_check.specs.Woven.{list_priced}
 use Rattle.price_check.proofs.Pushed.{each_pushed}
-use Rattle.price_law.specs.PriceLists.{PriceList}
+use Rattle.price_check.specs.PriceLists.{PriceList}
 use Rattle.price_check.proofs.woven.list_floors.Goals as goal
 
 pub bounds-numbers-j : goal.bounds-numbers-j

@@ -4,7 +4,7 @@ use Rattle.std.proofs.lemmas.List.{map-append, take_all, take_more}
 use Rattle.price_check.specs.declared.priced_list.PricedList.{PricedList}
 use Rattle.price_check.specs.Woven.{AreOf, list_priced}
 use Rattle.price_check.proofs.Pushed.{each_at, each_pushed}
-use Rattle.price_law.specs.PriceLists.{PriceList}
+use Rattle.price_check.specs.PriceLists.{PriceList}
 use Rattle.price_check.specs.declared.stated.OwnList.{OwnList}
 use Rattle.price_check.specs.Owned.{IsFit, list_owned}
 use Rattle.price_check.proofs.woven.priced_lists.Goals as goal

@@ -2,8 +2,8 @@ use Rattle.std.proofs.Common.{◌≤◌, ap, arith, length, ◌∙◌}
 use Rattle.fux_grid.specs.Exercises.{columns_in}
 use Rattle.price_check.specs.Floors.{exercise_of, list_of, sheet_of}
 use Rattle.price_check.proofs.Places.{charged_is, spent_there}
-use Rattle.price_law.specs.PriceLists.{charged_sum, path_of}
-use Rattle.price_law.proofs.Ways.{length-path_of}
+use Rattle.price_check.specs.PriceLists.{charged_sum, path_of}
+use Rattle.price_check.proofs.Ways.{length-path_of}
 use Rattle.price_check.proofs.floors.ListFloor.sum.Goals as goal
 
 pub returns : goal.returns

@@ -7,7 +7,7 @@ use Rattle.price_check.specs.Floors.{ArePlaces}
 use Rattle.price_check.specs.Sharps.{IsSharpKnown, IsStepOf, Sharp, plain_of}
 use Rattle.cert_law.specs.Known.{ways_of}
 use Rattle.price_check.proofs.SharpLemmas.{from_webbed, next_path, plain_step, same_lists, to_webbed}
-use Rattle.price_law.specs.PriceLists.{PriceList, path_of, sharp_tail}
+use Rattle.price_check.specs.PriceLists.{PriceList, path_of, sharp_tail}
 use Rattle.price_check.proofs.sharp_case.SharpCaseClaimTree.behind.Goals as goal
 
 pub behind-own-requires : goal.behind-own-requires

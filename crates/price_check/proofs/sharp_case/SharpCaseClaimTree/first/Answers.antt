@@ -1,6 +1,6 @@
 use Rattle.std.proofs.Common.{List, [], ap, subst, sym, ◌∙◌}
 use Rattle.price_check.proofs.SharpLemmas.{same_lists, to_webbed}
-use Rattle.price_law.specs.PriceLists.{PriceList, sharp_tail}
+use Rattle.price_check.specs.PriceLists.{PriceList, sharp_tail}
 use Rattle.cert_law.specs.Cases.{matter_of}
 use Rattle.cert_law.specs.Known.{IsKnown, Tailed}
 use Rattle.cert_law.proofs.KnownLemmas.{known_small}

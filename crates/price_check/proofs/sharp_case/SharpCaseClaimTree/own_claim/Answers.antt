@@ -7,9 +7,9 @@ use Rattle.fux_grid.specs.declared.cell.Cell.{Cell}
 use Rattle.price_check.specs.Floors.{list_of}
 use Rattle.price_check.specs.Sharps.{IsSharpKnown, Sharp, own_in, webbed}
 use Rattle.price_check.proofs.SharpLemmas.{plain_small, same_lists}
-use Rattle.price_law.specs.Truths.{sharp_first_claim}
-use Rattle.price_law.proofs.TailTruths.{tails_tell_first}
-use Rattle.price_law.specs.PriceLists.{PriceList, sharp_tail}
+use Rattle.price_check.specs.Truths.{sharp_first_claim}
+use Rattle.price_check.proofs.TailTruths.{tails_tell_first}
+use Rattle.price_check.specs.PriceLists.{PriceList, sharp_tail}
 use Rattle.price_text.specs.PriceLines.{line_of}
 use Rattle.price_check.proofs.sharp_case.SharpCaseClaimTree.own_claim.Goals as goal
 

@@ -38,11 +38,11 @@ use Rattle.species_space.specs.Grows.{live_value, paths_grow}
 use Rattle.species_space.specs.Paths.{column_at, columns_on, live_at, prefix_at}
 use Rattle.tree_search.specs.Answer.{IsLeaf}
 use Rattle.tree_search.proofs.Floors.{live_above}
-use Rattle.price_law.specs.Certificates.{ChargesNothing, IsFairList, IsFloorOf}
+use Rattle.price_check.specs.Certificates.{ChargesNothing, IsFairList, IsFloorOf}
 use Rattle.priced_paths.specs.LeastRests.{sum_in_case}
 use Rattle.priced_paths.proofs.RestLaws.{case_sums_are_floors, least_low, sum_is_low}
-use Rattle.price_law.specs.PriceLists.{PriceList, case_in, charged_sum, greatest_sum, least_on, list_sum, numbers_from, paid_on, path_of, sharp_floor, sharp_tail, spent_by, spent_of}
-use Rattle.price_law.proofs.Ways.{lawful_leaf, numbers_from-append, way_back}
+use Rattle.price_check.specs.PriceLists.{PriceList, case_in, charged_sum, greatest_sum, least_on, list_sum, numbers_from, paid_on, path_of, sharp_floor, sharp_tail, spent_by, spent_of}
+use Rattle.price_check.proofs.Ways.{lawful_leaf, numbers_from-append, way_back}
 
 -- ---- a list that charges
 

@@ -22,9 +22,9 @@ use Rattle.fux_grid.proofs.OrderLemmas.{earlier-append, earlier-chained, earlier
 use Rattle.fux_judge.specs.Lawful.{IsLawful}
 use Rattle.fux_judge.specs.Penalties.{penalty_of}
 use Rattle.penalty_sheet.specs.declared.sheet.Sheet.{Sheet}
-use Rattle.price_law.specs.Certificates.{IsFloorOf, IsSharpCertificate, IsSharpTrueOf, sharp_tree}
-use Rattle.price_law.specs.PriceLists.{PriceList, sharp_floor}
-use Rattle.price_law.proofs.ListSums.{sharp_floors}
+use Rattle.price_check.specs.Certificates.{IsFloorOf, IsSharpCertificate, IsSharpTrueOf, sharp_tree}
+use Rattle.price_check.specs.PriceLists.{PriceList, sharp_floor}
+use Rattle.price_check.proofs.ListSums.{sharp_floors}
 
 module _ (ex : Exercise) (valid : IsValid ex) (sheet : Sheet) (lists : List PriceList)
     (floors : IsFloorOf ex sheet (sharp_floor ex sheet lists)) where

@@ -1,9 +1,8 @@
 //! Certificates of the third form, which state prices: what a list of prices says of a prefix, what
 //! a valid certificate is, and that what its head says holds.
-#![tactic(auto)]
 
-ghost use Rattle.price_law.specs.Certificates.{ListsGiveFloors, SharpCertificatesHold, SharpFloorsHold, TailsGiveFloors};
-ghost use Rattle.price_law.specs.Truths.{TailsTellFirst, TailsTellTruth};
+ghost use Rattle.price_check.specs.Certificates.{ListsGiveFloors, SharpCertificatesHold, SharpFloorsHold, TailsGiveFloors};
+ghost use Rattle.price_check.specs.Truths.{TailsTellFirst, TailsTellTruth};
 
 /// A law, and nothing to run: where what is charged is due, no lawful setting that goes on from a
 /// prefix costs less than a list's sum of the prefix, nor than the greatest of the sums of all

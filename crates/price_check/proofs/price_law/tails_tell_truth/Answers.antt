@@ -1,5 +1,5 @@
-use Rattle.price_law.proofs.TailTruths as truths
-use Rattle.price_law.proofs.tails_tell_truth.Goals as goal
+use Rattle.price_check.proofs.TailTruths as truths
+use Rattle.price_check.proofs.price_law.tails_tell_truth.Goals as goal
 
 pub returns-clause-truth : goal.returns-clause-truth
 returns-clause-truth c = truths.tails_tell_truth

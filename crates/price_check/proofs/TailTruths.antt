@@ -20,10 +20,10 @@ use Rattle.fux_grid.specs.declared.exercise.Exercise.{Exercise}
 use Rattle.fux_grid.specs.Menus.{menu_of}
 use Rattle.fux_judge.specs.Links.{last_column}
 use Rattle.penalty_sheet.specs.declared.sheet.Sheet.{Sheet}
-use Rattle.price_law.specs.Certificates.{IsSharpTrueOf}
-use Rattle.price_law.specs.Truths.{sharp_first_claim}
-use Rattle.price_law.specs.PriceLists.{PriceList, sharp_floor, sharp_tail, spent_of}
-use Rattle.price_law.proofs.ListSums.{tails_give_floors}
+use Rattle.price_check.specs.Certificates.{IsSharpTrueOf}
+use Rattle.price_check.specs.Truths.{sharp_first_claim}
+use Rattle.price_check.specs.PriceLists.{PriceList, sharp_floor, sharp_tail, spent_of}
+use Rattle.price_check.proofs.ListSums.{tails_give_floors}
 
 -- ---- entries that state a tail
 

@@ -16,7 +16,7 @@ use Rattle.fux_judge.specs.Penalties.{penalty_of}
 use Rattle.penalty_sheet.specs.declared.sheet.Sheet.{Sheet}
 use Rattle.priced_floors.specs.declared.charges.Charges.{Charges}
 use Rattle.priced_floors.specs.Charges.{AreFairCharges, any_summit, prices_of}
-use Rattle.price_law.specs.PriceLists.{PriceList, list_sum, sharp_floor, sharp_tail, spent_of}
+use Rattle.price_check.specs.PriceLists.{PriceList, list_sum, sharp_floor, sharp_tail, spent_of}
 
 -- a claim is true of a prefix by some lists: `x` where one of them has no sum, `f` where the floor
 -- by them is no better than the head's setting; the others are those of the other forms

@@ -23,7 +23,7 @@ use Rattle.species_space.specs.Leaves.{path_to_alive}
 use Rattle.species_space.specs.Paths.{alive_from_parts, alive_parts, columns_on, history_follows, is_alive_path, is_in_menus, length-columns_on, live_at, prefix_at}
 use Rattle.floor_tables.specs.Floors.{floor_of}
 use Rattle.tree_search.specs.Answer.{IsLeaf}
-use Rattle.price_law.specs.PriceLists.{numbers_from, path_of}
+use Rattle.price_check.specs.PriceLists.{numbers_from, path_of}
 
 -- each column is one of its place's menu
 abbrev pub AreInMenus : Exercise → ℕ → List (List Cell) → Type 0

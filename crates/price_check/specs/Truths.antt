@@ -12,8 +12,8 @@ use Rattle.cert_text.specs.declared.claim.Claim.TheVariants.{Open, Broken, NoCha
 use Rattle.fux_grid.specs.declared.cell.Cell.{Cell}
 use Rattle.fux_grid.specs.declared.exercise.Exercise.{Exercise}
 use Rattle.penalty_sheet.specs.declared.sheet.Sheet.{Sheet}
-use Rattle.price_law.specs.Certificates.{IsSharpTrueOf}
-use Rattle.price_law.specs.PriceLists.{PriceList, sharp_floor, sharp_tail}
+use Rattle.price_check.specs.Certificates.{IsSharpTrueOf}
+use Rattle.price_check.specs.PriceLists.{PriceList, sharp_floor, sharp_tail}
 
 -- what tells whether a claim is true by the tail that lists give a prefix tells whether it is true by
 -- the lists

@@ -1,4 +1,0 @@
-pub mod Ways
-pub mod ListSums
-pub mod Excluded
-pub mod TailTruths

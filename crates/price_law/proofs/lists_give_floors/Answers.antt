@@ -1,5 +1,0 @@
-use Rattle.price_law.proofs.ListSums.{list_floors, sharp_floors}
-use Rattle.price_law.proofs.lists_give_floors.Goals as goal
-
-pub returns : goal.returns
-returns c = record { each = list_floors; all = sharp_floors }

@@ -1,3 +1,0 @@
-pub mod PriceLists
-pub mod Certificates
-pub mod Truths
