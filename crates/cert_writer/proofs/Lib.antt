@@ -2,3 +2,8 @@ pub mod Beginnings
 pub mod Certificates
 pub mod Fits
 pub mod StageLemmas
+pub mod Lent
+pub mod Sizes
+pub mod Written
+pub mod WrittenLines
+pub mod Heads

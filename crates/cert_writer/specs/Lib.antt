@@ -1,3 +1,5 @@
 pub mod Heads
 pub mod Stages
 pub mod Writing
+pub mod Certificates
+pub mod Laws

@@ -3,14 +3,19 @@
 //! space of settings, whose tables it reads, and beside the checker.
 #![tactic(auto)]
 
+mod answers;
 mod begin;
 mod certificate;
 mod copy;
 mod entries;
 mod head;
+mod law;
 mod lines;
 mod next;
+mod price_certificate;
+mod prices;
 
+pub use answers::PricesWrite;
 pub use certificate::certify_form;
-pub use copy::head_of;
-pub use head::head_text;
+pub use law::written_by_prices;
+pub use prices::certify_prices;

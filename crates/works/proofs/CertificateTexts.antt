@@ -36,7 +36,7 @@ use Rattle.fux_text.specs.ReadBack.{sing_lines}
 use Rattle.penalty_sheet.specs.declared.sheet.Sheet.{Sheet}
 use Rattle.rule_law.specs.Prefixes.{IsSetting}
 use Rattle.works.specs.CantusCertified as certified
-use Rattle.price_writer.specs.Certificates.{IsPricedCertificateOf}
+use Rattle.cert_writer.specs.Certificates.{IsPricedCertificateOf}
 use Rattle.works.specs.Certified.{IsAcceptable, IsCertificateByNumbers, IsCertificateOf}
 
 -- ---- of settings

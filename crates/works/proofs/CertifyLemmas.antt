@@ -24,7 +24,7 @@ use Rattle.floor_tables.specs.Tables.{Task as Searched}
 use Rattle.fux_port.specs.Written.{StopsShort, appended}
 use Rattle.penalty_sheet.specs.declared.sheet.Sheet.{Sheet}
 use Rattle.fux_grid.specs.declared.cell.Cell.{Cell}
-use Rattle.price_writer.specs.Certificates.{IsCut as IsPricedCut, IsOverlong as IsPricedLong, IsWhole, OfPriced}
+use Rattle.cert_writer.specs.Certificates.{IsCut as IsPricedCut, IsOverlong as IsPricedLong, IsWhole, OfPriced}
 use Rattle.works.specs.declared.complaint.Complaint.{Complaint}
 use Rattle.works.specs.declared.complaint.Complaint.TheVariants.{Usage, Refused, Unreadable, Unwritable, OutOfMemory}
 use Rattle.class_marker.specs.declared.one.Text.{Text as Content}

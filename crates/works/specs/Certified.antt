@@ -18,7 +18,7 @@ use Rattle.fux_grid.specs.declared.exercise.Exercise.{Exercise}
 use Rattle.fux_grid.specs.Grid.{Grid}
 use Rattle.penalty_sheet.specs.declared.sheet.Sheet.{Sheet}
 use Rattle.price_check.specs.Woven.{IsLargeWeb}
-use Rattle.price_writer.specs.Certificates.{IsPricedCertificateOf, least_kept}
+use Rattle.cert_writer.specs.Certificates.{IsPricedCertificateOf, least_kept}
 use Rattle.works.specs.declared.refusal.Refusal.{Refusal}
 use Rattle.works.specs.declared.refusal.Refusal.TheVariants.{LargeGraph, LongCertificate}
 use Rattle.works.specs.declared.work.Output.{Output}

@@ -17,9 +17,9 @@ use Rattle.price_check.specs.declared.stated.OwnList.{OwnList}
 use Rattle.price_check.specs.Owned.{IsFit, list_owned}
 use Rattle.price_text.specs.Lists.{lists_text}
 use Rattle.price_text.specs.PriceLines.{line_of}
-use Rattle.price_writer.proofs.Lent.{floors_stated, large_web, same_numbers, same_webs}
-use Rattle.price_writer.proofs.WrittenLines.{eight_lists}
-use Rattle.price_writer.proofs.prices.write_by_lines.Goals as goal
+use Rattle.cert_writer.proofs.Lent.{floors_stated, large_web, same_numbers, same_webs}
+use Rattle.cert_writer.proofs.WrittenLines.{eight_lists}
+use Rattle.cert_writer.proofs.prices.write_by_lines.Goals as goal
 
 pub lists_stated-requires : goal.lists_stated-requires
 lists_stated-requires g c =

@@ -35,7 +35,7 @@ use Rattle.price_check.specs.Certificates.{IsFairList, IsSharpCertificate, IsSha
 use Rattle.price_check.specs.PriceLists.{PriceList, sharp_floor, sharp_tail, spent_of}
 use Rattle.price_check.specs.Truths.{sharp_first_claim, sharp_unbroken}
 use Rattle.price_check.proofs.ListSums.{tails_give_floors}
-use Rattle.price_writer.specs.Laws.{priced_claims}
+use Rattle.cert_writer.specs.Laws.{priced_claims}
 use Rattle.rule_law.specs.Prefixes.{IsPrefix, IsSetting}
 
 -- ---- each first claim is true

@@ -18,9 +18,9 @@ use Rattle.price_check.specs.Stated.{AreStated}
 use Rattle.price_text.specs.PriceLines.{Line}
 use Rattle.priced_floors.specs.declared.kept.Kept.{Kept}
 use Rattle.priced_paths.specs.declared.web.Web.{Web}
-use Rattle.price_writer.specs.Certificates.{web_answer}
-use Rattle.price_writer.specs.declared.answers.PricesWrite.{PricesWrite}
-use Rattle.price_writer.specs.declared.answers.PricesWrite.TheVariants.{Memory, TooLarge}
+use Rattle.cert_writer.specs.Certificates.{web_answer}
+use Rattle.cert_writer.specs.declared.answers.PricesWrite.{PricesWrite}
+use Rattle.cert_writer.specs.declared.answers.PricesWrite.TheVariants.{Memory, TooLarge}
 
 pub same_webs : (lists others : List PricedList) (webs lent : List (Option (Web Kept))) → lists ≡ others → webs ≡ lent
     → AreWebs lists webs → AreWebs others lent

@@ -1,5 +1,5 @@
-use Rattle.price_writer.proofs.Written.{all_true, written_is_valid}
-use Rattle.price_writer.proofs.law.written_by_prices.Goals as goal
+use Rattle.cert_writer.proofs.Written.{all_true, written_is_valid}
+use Rattle.cert_writer.proofs.law.written_by_prices.Goals as goal
 
 pub returns-clause-told : goal.returns-clause-told
 returns-clause-told c = λ ex sheet head lists valid holds. all_true ex valid sheet lists head holds

@@ -1,5 +1,5 @@
 use Rattle.std.proofs.Common.{Err, ap, ◌∙◌}
-use Rattle.price_writer.proofs.prices.write_chosen.Goals as goal
+use Rattle.cert_writer.proofs.prices.write_chosen.Goals as goal
 
 pub returns-in-Err-TooLarge-clause-ok : goal.returns-in-Err-TooLarge-clause-ok
 returns-in-Err-TooLarge-clause-ok g c =

@@ -22,8 +22,8 @@ use Rattle.priced_paths.specs.declared.states.WebFault.{WebFault}
 use Rattle.priced_paths.specs.declared.states.WebFault.TheVariants as webs
 use Rattle.price_text.specs.Lists.{lists_text}
 use Rattle.price_text.specs.PriceLines.{Line}
-use Rattle.price_writer.specs.declared.answers.PricesWrite.{PricesWrite}
-use Rattle.price_writer.specs.declared.answers.PricesWrite.TheVariants.{Memory, TooLarge, TooLong}
+use Rattle.cert_writer.specs.declared.answers.PricesWrite.{PricesWrite}
+use Rattle.cert_writer.specs.declared.answers.PricesWrite.TheVariants.{Memory, TooLarge, TooLong}
 
 -- the bytes are the text of a valid certificate with this head: the head's text, lists that may stand
 -- behind it, whose prices are due and none of which keeps too much for a web, and claims by what they

@@ -1,7 +1,7 @@
 use Rattle.std.proofs.Common.{Err, ap, inl, inr, ◌∙◌}
-use Rattle.price_writer.proofs.Sizes.{within}
-use Rattle.price_writer.proofs.WrittenLines.{is_certificate, own_lines, own_told}
-use Rattle.price_writer.proofs.certificate.write_priced.Goals as goal
+use Rattle.cert_writer.proofs.Sizes.{within}
+use Rattle.cert_writer.proofs.WrittenLines.{is_certificate, own_lines, own_told}
+use Rattle.cert_writer.proofs.price_certificate.write_priced.Goals as goal
 
 pub write_with_claims-requires-clause-told : goal.write_with_claims-requires-clause-told
 write_with_claims-requires-clause-told g c =

@@ -1,7 +1,7 @@
 -- What isn't too long is no longer than a certificate may be (`within`).
 use Rattle.std.proofs.Common.{ℕ, ◌<◌, ◌≤◌, List, length, inl, inr}
 use Rattle.std.proofs.lemmas.Bool.Decides.{leb_tells}
-use Rattle.price_writer.specs.Certificates.{most_bytes}
+use Rattle.cert_writer.specs.Certificates.{most_bytes}
 
 pub within : (bytes : List ℕ) → (most_bytes < length bytes → ⊥) → length bytes ≤ most_bytes
 within bytes short =

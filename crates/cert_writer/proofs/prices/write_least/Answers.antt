@@ -3,8 +3,8 @@ use Rattle.list_writer.proofs.Least.{least_fits}
 use Rattle.list_writer.specs.Stating.{FitBehind}
 use Rattle.price_check.specs.Statements.{HasLargeStated}
 use Rattle.price_text.specs.PriceLines.{Line, line_of}
-use Rattle.price_writer.proofs.Heads.{least_large}
-use Rattle.price_writer.proofs.prices.write_least.Goals as goal
+use Rattle.cert_writer.proofs.Heads.{least_large}
+use Rattle.cert_writer.proofs.prices.write_least.Goals as goal
 
 pub write_by_lines-requires-clause-fit : goal.write_by_lines-requires-clause-fit
 write_by_lines-requires-clause-fit g c κs within =

@@ -8,7 +8,7 @@ ghost use Rattle.fux_port.specs.Promises.{Fails};
 ghost use Rattle.list_writer.specs.Stating.{FitBehind};
 ghost use Rattle.price_check.specs.Statements.{HasLargeStated};
 ghost use Rattle.price_text.specs.Lists.{lists_text};
-ghost use Rattle.price_writer.specs.Certificates.{EndsUnwritten, IsCut, IsOverlong, IsWhole, OfPriced};
+ghost use Rattle.cert_writer.specs.Certificates.{EndsUnwritten, IsCut, IsOverlong, IsWhole, OfPriced};
 
 use crate::answers::PricesWrite;
 use cert_text::CertWrite;

@@ -9,13 +9,14 @@ ghost use Rattle.list_writer.specs.Stating.{FitBehind};
 ghost use Rattle.price_check.specs.Woven.{IsLargeWeb};
 ghost use Rattle.price_check.specs.Statements.{HasLargeStated};
 ghost use Rattle.price_text.specs.PriceLines.{line_of};
-ghost use Rattle.price_writer.specs.Certificates.{EndsUnwritten, IsCut, IsOverlong, IsWhole, OfPriced, least_kept, longest_head};
+ghost use Rattle.cert_writer.specs.Certificates.{EndsUnwritten, IsCut, IsOverlong, IsWhole, OfPriced, least_kept, longest_head};
 
 use crate::answers::PricesWrite;
-use crate::certificate::write_priced;
+use crate::copy::head_of;
+use crate::head::head_text;
+use crate::price_certificate::write_priced;
 use cert_law::{Case, weights_are_small};
 use cert_text::{CertHead, Form};
-use cert_writer::{head_of, head_text};
 use fux_grid::Score;
 use fux_pitch::Memory;
 use fux_port::Sink;

@@ -1,6 +1,6 @@
 use Rattle.std.proofs.Common.{◌∙◌}
-use Rattle.price_writer.proofs.Heads.{front_is_brief}
-use Rattle.price_writer.proofs.prices.certify_prices.Goals as goal
+use Rattle.cert_writer.proofs.Heads.{front_is_brief}
+use Rattle.cert_writer.proofs.prices.certify_prices.Goals as goal
 
 pub write_chosen-requires-clause-brief : goal.write_chosen-requires-clause-brief
 write_chosen-requires-clause-brief g c κs within =

@@ -34,8 +34,8 @@ use Rattle.price_text.proofs.WholeLists.{lists_few}
 use Rattle.price_text.specs.declared.line.Before.{Before}
 use Rattle.price_text.specs.Lists.{AreLinesOf, AreLists, lists_text}
 use Rattle.price_text.specs.PriceLines.{Keeps, Cases, Price, Claims, Line, after, nothing_before}
-use Rattle.price_writer.proofs.Written.{all_true}
-use Rattle.price_writer.specs.Certificates.{IsPricedCertificateOf, with_claims}
+use Rattle.cert_writer.proofs.Written.{all_true}
+use Rattle.cert_writer.specs.Certificates.{IsPricedCertificateOf, with_claims}
 
 -- ---- by the lists that lines state
 

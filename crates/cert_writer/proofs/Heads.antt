@@ -23,7 +23,7 @@ use Rattle.penalty_sheet.specs.declared.sheet.Sheet.{Sheet}
 use Rattle.price_check.specs.Woven.{IsLargeWeb}
 use Rattle.price_check.specs.Statements.{HasLargeStated, kept_by}
 use Rattle.price_check.specs.Stated.{StatedList, lists_of}
-use Rattle.price_writer.specs.Certificates.{least_kept, longest_head}
+use Rattle.cert_writer.specs.Certificates.{least_kept, longest_head}
 use Rattle.rule_law.specs.Prefixes.{IsSetting}
 
 module _ (ex : Exercise) (sheet : Sheet) (valid : IsValid ex) where

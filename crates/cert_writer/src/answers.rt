@@ -1,8 +1,8 @@
 //! How the writing of a certificate of the third form fails.
 
 ghost use Rattle.std.specs.Prelude.{◌≡◌};
-ghost use Rattle.price_writer.specs.Certificates.{web_answer};
-ghost use Rattle.price_writer.specs.declared.answers.PricesWrite.TheVariants.{Memory as no_memory};
+ghost use Rattle.cert_writer.specs.Certificates.{web_answer};
+ghost use Rattle.cert_writer.specs.declared.answers.PricesWrite.TheVariants.{Memory as no_memory};
 
 use fux_pitch::Memory;
 use price_check::WebFault;
