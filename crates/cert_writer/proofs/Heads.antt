@@ -18,7 +18,7 @@ use Rattle.fux_grid.specs.Exercises.{IsValid}
 use Rattle.fux_grid.specs.Grid.{Grid}
 use Rattle.fux_text.specs.Grammar.{IsSettingOf}
 use Rattle.fux_text.specs.ReadBack.{sing_lines}
-use Rattle.list_writer.specs.Stating.{least_list}
+use Rattle.cert_writer.specs.Stating.{least_list}
 use Rattle.penalty_sheet.specs.declared.sheet.Sheet.{Sheet}
 use Rattle.price_check.specs.Woven.{IsLargeWeb}
 use Rattle.price_check.specs.Statements.{HasLargeStated, kept_by}

@@ -7,3 +7,5 @@ pub mod Sizes
 pub mod Written
 pub mod WrittenLines
 pub mod Heads
+pub mod Begun
+pub mod Least

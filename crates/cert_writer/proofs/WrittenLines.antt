@@ -22,7 +22,7 @@ use Rattle.claim_writer.specs.Writing.{HaveLines, claim_lines}
 use Rattle.fux_grid.specs.declared.cell.Cell.{Cell}
 use Rattle.fux_grid.specs.declared.exercise.Exercise.{Exercise}
 use Rattle.fux_grid.specs.Exercises.{IsValid, columns_in}
-use Rattle.list_writer.specs.Stating.{FitBehind}
+use Rattle.cert_writer.specs.Stating.{FitBehind}
 use Rattle.penalty_sheet.specs.declared.sheet.Sheet.{Sheet}
 use Rattle.price_check.specs.Sharps.{Sharp, lists_in, own_in, tree_in}
 use Rattle.price_check.specs.Statements.{HasLargeStated, stated_tree}

@@ -12,7 +12,7 @@ use Rattle.claim_writer.specs.Writing.{claim_lines}
 use Rattle.fux_grid.specs.declared.exercise.Exercise.{Exercise}
 use Rattle.fux_grid.specs.Exercises.{columns_in}
 use Rattle.fux_port.specs.Written.{StopsShort, appended}
-use Rattle.list_writer.specs.Stating.{FitBehind}
+use Rattle.cert_writer.specs.Stating.{FitBehind}
 use Rattle.open_ends.specs.Choices.{keeps_of}
 use Rattle.open_ends.specs.declared.keeps.Keeps.{Keeps}
 use Rattle.penalty_sheet.specs.declared.sheet.Sheet.{Sheet}

@@ -3,3 +3,4 @@ pub mod Stages
 pub mod Writing
 pub mod Certificates
 pub mod Laws
+pub mod Stating

@@ -1,6 +1,7 @@
 //! The writer of certificates: for each prefix that is owed it writes the first claim that is true
-//! of it, and before the claims, in the second form, the least sums over chains. It stands over the
-//! space of settings, whose tables it reads, and beside the checker.
+//! of it, and before the claims, in the second form, the least sums over chains, and in the third
+//! lists of prices that were found, as many as there is room for. It stands over the space of
+//! settings, whose tables it reads, and beside the checker.
 #![tactic(auto)]
 
 mod answers;
@@ -11,9 +12,11 @@ mod entries;
 mod head;
 mod law;
 mod lines;
+mod lists;
 mod next;
 mod price_certificate;
 mod prices;
+mod stating;
 
 pub use answers::PricesWrite;
 pub use certificate::certify_form;

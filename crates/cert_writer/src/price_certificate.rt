@@ -5,7 +5,7 @@ ghost use Rattle.cert_law.specs.Certificates.{Holds};
 ghost use Rattle.cert_law.specs.Writer.{head_text};
 ghost use Rattle.cert_text.specs.declared.answers.Form.TheVariants.{Third};
 ghost use Rattle.fux_port.specs.Promises.{Fails};
-ghost use Rattle.list_writer.specs.Stating.{FitBehind};
+ghost use Rattle.cert_writer.specs.Stating.{FitBehind};
 ghost use Rattle.price_check.specs.Statements.{HasLargeStated};
 ghost use Rattle.price_text.specs.Lists.{lists_text};
 ghost use Rattle.cert_writer.specs.Certificates.{EndsUnwritten, IsCut, IsOverlong, IsWhole, OfPriced};

@@ -5,7 +5,7 @@ ghost use Rattle.cert_law.specs.Certificates.{Holds};
 ghost use Rattle.cert_law.specs.Writer as words;
 ghost use Rattle.cert_writer.specs.Heads.{head_with};
 ghost use Rattle.fux_port.specs.Promises.{Fails};
-ghost use Rattle.list_writer.specs.Stating.{FitBehind};
+ghost use Rattle.cert_writer.specs.Stating.{FitBehind};
 ghost use Rattle.price_check.specs.Woven.{IsLargeWeb};
 ghost use Rattle.price_check.specs.Statements.{HasLargeStated};
 ghost use Rattle.price_text.specs.PriceLines.{line_of};
@@ -14,13 +14,13 @@ ghost use Rattle.cert_writer.specs.Certificates.{EndsUnwritten, IsCut, IsOverlon
 use crate::answers::PricesWrite;
 use crate::copy::head_of;
 use crate::head::head_text;
+use crate::lists::{least_lines, lines_within, text_behind};
 use crate::price_certificate::write_priced;
 use cert_law::{Case, weights_are_small};
 use cert_text::{CertHead, Form};
 use fux_grid::Score;
 use fux_pitch::Memory;
 use fux_port::Sink;
-use list_writer::{least_lines, lines_within, text_behind};
 use menu_tails::MenuTails;
 use price_check::{
     SharpCase, list_floors, list_numbers, lists_are_fit, lists_stated, priced_lists, webs_of,

@@ -6,7 +6,7 @@ use Rattle.cert_law.proofs.PrefixTruths.{sound}
 use Rattle.floor_tables.specs.Tables.{AreNarrow, Task}
 use Rattle.fux_grid.specs.declared.exercise.Exercise.{Exercise}
 use Rattle.fux_grid.specs.Exercises.{IsValid}
-use Rattle.list_writer.specs.Stating.{FitBehind}
+use Rattle.cert_writer.specs.Stating.{FitBehind}
 use Rattle.penalty_sheet.specs.declared.sheet.Sheet.{Sheet}
 use Rattle.price_check.proofs.LargeLists.{none_large, told_large}
 use Rattle.price_check.specs.declared.floors.ListFloor.{ListFloor}

@@ -9,7 +9,7 @@ use Rattle.price_text.specs.declared.line.Before.{Before}
 use Rattle.price_text.specs.Lists.{AreLists, is_last, lists_text}
 use Rattle.price_text.specs.PriceLines.{Keeps, Cases, Price, Claims, Fits, Line, after, line_of, nothing_before}
 use Rattle.priced_floors.specs.declared.charges.TheConstants.{SCALE}
-use Rattle.list_writer.specs.declared.stating.Stating.{Stating}
+use Rattle.cert_writer.specs.declared.stating.Stating.{Stating}
 
 -- a price is no higher than this
 abbrev pub IsWithin : ℕ → Line → Type 0

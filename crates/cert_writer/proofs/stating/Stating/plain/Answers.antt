@@ -1,7 +1,7 @@
 use Rattle.std.proofs.Common.{ap, ◌∙◌}
 use Rattle.price_text.specs.PriceLines.{Keeps, after}
-use Rattle.list_writer.proofs.Begun.{one_line, plain_states}
-use Rattle.list_writer.proofs.stating.Stating.plain.Goals as goal
+use Rattle.cert_writer.proofs.Begun.{one_line, plain_states}
+use Rattle.cert_writer.proofs.stating.Stating.plain.Goals as goal
 
 pub returns : goal.returns
 returns c =

@@ -3,7 +3,7 @@
 ghost use Rattle.std.specs.Prelude.{◌≡◌, ◌++◌, IfOk, IfSome, OnOk, map, string_bytes};
 ghost use Rattle.price_text.specs.Lists.{lists_text};
 ghost use Rattle.price_text.specs.PriceLines.{line_of};
-ghost use Rattle.list_writer.specs.Stating.{CanBeStated, FitBehind, IsStating, least_list};
+ghost use Rattle.cert_writer.specs.Stating.{CanBeStated, FitBehind, IsStating, least_list};
 
 use crate::stating::Stating;
 use fux_grid::Exercise;

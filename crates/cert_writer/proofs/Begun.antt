@@ -14,8 +14,8 @@ use Rattle.price_text.specs.Lists.{AreLinesOf, is_last}
 use Rattle.price_text.specs.PriceLines.{Keeps, Cases, Price, Claims, AreFalling, Fits, Line, after, line_of, nothing_before}
 use Rattle.price_text.proofs.WholeLists.{lists_few}
 use Rattle.priced_floors.specs.declared.charges.TheConstants.{SCALE}
-use Rattle.list_writer.specs.declared.stating.Stating.{Stating}
-use Rattle.list_writer.specs.Stating.{AreBegun, CanBeStated, IsStating, IsWithin, behind}
+use Rattle.cert_writer.specs.declared.stating.Stating.{Stating}
+use Rattle.cert_writer.specs.Stating.{AreBegun, CanBeStated, IsStating, IsWithin, behind}
 
 module _ (ex : Exercise) where
   pub begun-more : (before : Before) (lines : List Line) (line : Line) → AreBegun ex before lines

@@ -1,7 +1,7 @@
 -- The least list may be stated behind the text of any head (`least_fits`).
 use Rattle.std.proofs.Common.{◌≡◌, ℕ, ◌≤◌, List, length, refl, arith, length-append}
 use Rattle.fux_grid.specs.declared.exercise.Exercise.{Exercise}
-use Rattle.list_writer.specs.Stating.{FitBehind, least_list}
+use Rattle.cert_writer.specs.Stating.{FitBehind, least_list}
 use Rattle.penalty_sheet.specs.declared.sheet.Sheet.{Sheet}
 use Rattle.price_text.specs.Lists.{lists_text}
 

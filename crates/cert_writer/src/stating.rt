@@ -6,7 +6,7 @@ ghost use Rattle.penalty_sheet.specs.Weights.{greatest_toll, weight_of};
 ghost use Rattle.price_text.specs.Lists.{is_last};
 ghost use Rattle.price_text.specs.PriceLines as lines;
 ghost use Rattle.price_text.specs.PriceLines.{AreFalling, Fits, is_free_voice, line_of, most_price};
-ghost use Rattle.list_writer.specs.Stating.{CanBeStated, IsStating, IsWithin};
+ghost use Rattle.cert_writer.specs.Stating.{CanBeStated, IsStating, IsWithin};
 ghost use Rattle.priced_floors.specs.declared.charges.TheConstants.{SCALE};
 
 use fux_grid::Exercise;

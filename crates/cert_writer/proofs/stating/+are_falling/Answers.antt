@@ -1,6 +1,6 @@
 use Rattle.std.proofs.Common.{arith}
-use Rattle.list_writer.proofs.Begun.{falling_more}
-use Rattle.list_writer.proofs.stating.+are_falling.Goals as goal
+use Rattle.cert_writer.proofs.Begun.{falling_more}
+use Rattle.cert_writer.proofs.stating.+are_falling.Goals as goal
 
 pub returns : goal.returns
 returns t c =

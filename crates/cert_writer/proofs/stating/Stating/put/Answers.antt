@@ -2,8 +2,8 @@ use Rattle.std.proofs.Common.{ap, map, [], ◌∷◌, ◌∙◌}
 use Rattle.std.proofs.lemmas.Bool.{OnTrue_at}
 use Rattle.std.proofs.lemmas.List.{map-append}
 use Rattle.price_text.specs.PriceLines.{line_of}
-use Rattle.list_writer.proofs.Begun.{put_states, within_more}
-use Rattle.list_writer.proofs.stating.Stating.put.Goals as goal
+use Rattle.cert_writer.proofs.Begun.{put_states, within_more}
+use Rattle.cert_writer.proofs.stating.Stating.put.Goals as goal
 
 pub returns : goal.returns
 returns c =
