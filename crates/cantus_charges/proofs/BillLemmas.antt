@@ -13,7 +13,7 @@ use Rattle.melody_rules.specs.Held.{pitches_are}
 use Rattle.melody_rules.specs.Keys.{greatest_key, least_key}
 use Rattle.melody_rules.specs.Rows.{before_last, last_of, pitches}
 use Rattle.penalty_sheet.specs.declared.sheet.Sheet.{Sheet}
-use Rattle.cantus_prices.specs.declared.prices.CantusPrices.{CantusPrices}
+use Rattle.cantus_space.specs.declared.prices.CantusPrices.{CantusPrices}
 use Rattle.cantus_space.specs.declared.node.CantusNode.{CantusNode}
 use Rattle.cantus_space.specs.declared.plan.CantusPlan.{CantusPlan}
 use Rattle.cantus_space.specs.Ahead.{floor_ends}

@@ -11,8 +11,8 @@ use Rattle.melody_rules.specs.Gauges.{beyond_fourth, climax_repeats, is_narrow, 
 use Rattle.melody_rules.specs.Rows.{before_last, last_of, leaves_open, on_moves, pays_move}
 use Rattle.penalty_sheet.specs.declared.sheet.Sheet.{Sheet}
 use Rattle.penalty_sheet.specs.Weights.{weight_of, charge}
-use Rattle.cantus_prices.specs.declared.prices.CantusPrices.{CantusPrices}
-use Rattle.cantus_prices.specs.Prices.{price_of}
+use Rattle.cantus_space.specs.declared.prices.CantusPrices.{CantusPrices}
+use Rattle.cantus_space.specs.Prices.{price_of}
 use Rattle.cantus_space.specs.Melody.{charged, climax_bar, ends_by, ends_cost, is_altered, is_central, is_the, moves_one_way, note_charge, price_if, stays_out}
 use Rattle.cantus_space.specs.Rules.{gauge_cost, leap_excess, note_cost, paid}
 use Rattle.cantus_charges.specs.declared.charge.CantusCharge.{CantusCharge}

@@ -9,8 +9,8 @@ use Rattle.melody_rules.specs.Gauges.{beyond_fourth, climax_repeats, is_narrow, 
 use Rattle.melody_rules.specs.Rows.{before_last, last_of, leaves_open, on_moves, pays_move}
 use Rattle.penalty_sheet.specs.declared.sheet.Sheet.{Sheet}
 use Rattle.penalty_sheet.specs.Weights.{weight_of, charge}
-use Rattle.cantus_prices.specs.declared.prices.CantusPrices.{CantusPrices}
-use Rattle.cantus_prices.specs.Prices.{price_of}
+use Rattle.cantus_space.specs.declared.prices.CantusPrices.{CantusPrices}
+use Rattle.cantus_space.specs.Prices.{price_of}
 use Rattle.cantus_space.specs.declared.plan.CantusPlan.{CantusPlan}
 use Rattle.cantus_space.specs.Lawful.{penalty_of}
 use Rattle.cantus_space.specs.Melody.{climax_bar, is_altered, is_central, is_the, moves_one_way, price_if, stays_out}

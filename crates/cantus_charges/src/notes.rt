@@ -10,8 +10,9 @@ ghost use Rattle.cantus_space.specs.Nodes.{HasPitches};
 ghost use Rattle.cantus_charges.specs.Charges as words;
 
 use crate::charge::{CantusCharge, Penalty, put};
-use cantus_prices::{CantusPrices, price};
-use cantus_space::{CantusNode, CantusPlan, is_altered, is_the, leaves_leap, price_if};
+use cantus_space::{
+    CantusNode, CantusPlan, CantusPrices, is_altered, is_the, leaves_leap, price, price_if,
+};
 use fux_grid::Cell;
 use fux_pitch::{Memory, Pitch};
 use melody_rules::{VoiceNotes, leap_open_after, toll_of_move};

@@ -7,8 +7,7 @@ ghost use Rattle.cantus_space.specs.Nodes.{HasPitches};
 ghost use Rattle.cantus_charges.specs.Charges as words;
 
 use crate::charge::{CantusCharge, Penalty, put};
-use cantus_prices::{CantusPrices, price};
-use cantus_space::{CantusNode, CantusPlan, is_central, price_if};
+use cantus_space::{CantusNode, CantusPlan, CantusPrices, is_central, price, price_if};
 use fux_pitch::Memory;
 use melody_rules::{Compass, is_narrow, leap_excess};
 use penalty_sheet::{Sheet, weight};

@@ -5,3 +5,4 @@ mod NodeLemmas
 mod Trees
 mod PoolSteps
 mod RuleSets
+pub mod PricedLemmas

@@ -12,3 +12,5 @@ pub mod Numbers
 pub mod Order
 pub mod Paths
 pub mod Rules
+pub mod PricedSheets
+pub mod Prices

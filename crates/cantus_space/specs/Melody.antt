@@ -10,8 +10,8 @@ use Rattle.rule_law.specs.Terms.{is_leap, is_step, opposite_ways, same_way}
 use Rattle.melody_rules.specs.Gauges.{leaps_in}
 use Rattle.melody_rules.specs.Keys.{greatest_key}
 use Rattle.melody_rules.specs.Rows.{before_last, last_of, on_moves}
-use Rattle.cantus_prices.specs.declared.prices.CantusPrices.{CantusPrices}
-use Rattle.cantus_prices.specs.Prices.{price_of}
+use Rattle.cantus_space.specs.declared.prices.CantusPrices.{CantusPrices}
+use Rattle.cantus_space.specs.Prices.{price_of}
 
 -- how many moves on end go one way, up to the newest pitch: a move that doesn't go the way of the
 -- one before it begins anew

@@ -6,7 +6,7 @@ ghost use Rattle.rule_law.specs.Terms.{same_way};
 ghost use Rattle.melody_rules.specs.Rows.{on_moves};
 ghost use Rattle.cantus_space.specs.Melody as words;
 
-use cantus_prices::{CantusPrices, price};
+use crate::prices::{CantusPrices, price};
 use fux_pitch::{Interval, Pitch, interval_of};
 use rule_law::{is_leap, is_step, opposite_ways, same_way};
 

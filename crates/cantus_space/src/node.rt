@@ -14,7 +14,7 @@ use crate::melody::{goes_on, least_ends, note_charge, top_after};
 use crate::notes::{breaks_some_rule, times_struck};
 use crate::plan::CantusPlan;
 use crate::pools::is_in_pool;
-use cantus_prices::CantusPrices;
+use crate::prices::CantusPrices;
 use fux_grid::Cell;
 use fux_pitch::{Pitch, semitone};
 use melody_rules::{

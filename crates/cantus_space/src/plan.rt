@@ -1,6 +1,6 @@
 //! What is asked of a cantus.
 
-use cantus_prices::CantusPrices;
+use crate::prices::CantusPrices;
 use fux_pitch::{Mode, Pitch};
 use penalty_sheet::Sheet;
 

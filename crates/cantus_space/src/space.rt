@@ -9,7 +9,7 @@ use crate::node::CantusNode;
 use crate::notes::broken_after;
 use crate::plan::CantusPlan;
 use crate::pools::{PITCHES, next_of_pool, numbered_pitch};
-use cantus_prices::CantusPrices;
+use crate::prices::CantusPrices;
 use fux_pitch::{Mode, Pitch, in_gamut};
 use penalty_sheet::Sheet;
 use rule_law::RuleSet;

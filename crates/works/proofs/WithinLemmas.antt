@@ -1,8 +1,8 @@
 -- What `check` answers to the texts of an exercise and of a sheet, from what it answers to these
 -- (`check_of_sheet`), and what a job makes of them (`answers_of_sheet`).
 use Rattle.std.proofs.Common.{◌≡◌, List, ℕ, Result, Ok, Err, inl, inr, refl, subst, sym}
-use Rattle.cantus_prices.specs.declared.prices.CantusPrices.{CantusPrices}
-use Rattle.cantus_prices.specs.declared.prices.PricedSheet.{PricedSheet}
+use Rattle.cantus_space.specs.declared.prices.CantusPrices.{CantusPrices}
+use Rattle.cantus_space.specs.declared.prices.PricedSheet.{PricedSheet}
 use Rattle.class_marker.specs.Markings.{IsTheText}
 use Rattle.fux_grid.specs.declared.exercise.Exercise.{Exercise}
 use Rattle.penalty_sheet.specs.declared.sheet.Sheet.{Sheet}

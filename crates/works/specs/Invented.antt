@@ -1,6 +1,6 @@
 -- What `newcantus` makes of a mode, a number of bars and a range, over a sheet of weights.
 use Rattle.std.specs.Prelude.{ℕ, List, [], ◌∷◌, ◌++◌, Ok, Err, codes, map}
-use Rattle.cantus_prices.specs.declared.prices.CantusPrices.{CantusPrices}
+use Rattle.cantus_space.specs.declared.prices.CantusPrices.{CantusPrices}
 use Rattle.cantus_space.specs.declared.plan.CantusPlan.{CantusPlan}
 use Rattle.cantus_space.specs.Lawful.{quest_of}
 use Rattle.fux_pitch.specs.declared.pitch.Pitch.{Pitch}

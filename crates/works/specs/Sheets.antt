@@ -2,10 +2,10 @@
 use Rattle.std.specs.Prelude.{◌≡◌, ℕ, ◌⊎◌, List, [], ◌∷◌, Result, Ok, Err}
 use Rattle.penalty_sheet.specs.declared.fault.SheetFault.{SheetFault}
 use Rattle.penalty_sheet.specs.declared.sheet.Sheet.{Sheet}
-use Rattle.cantus_prices.specs.declared.prices.CantusPrices.{CantusPrices}
-use Rattle.cantus_prices.specs.declared.prices.PricedSheet.{PricedSheet}
-use Rattle.cantus_prices.specs.Prices.{no_prices}
-use Rattle.cantus_prices.specs.PricedSheets.{priced_of}
+use Rattle.cantus_space.specs.declared.prices.CantusPrices.{CantusPrices}
+use Rattle.cantus_space.specs.declared.prices.PricedSheet.{PricedSheet}
+use Rattle.cantus_space.specs.Prices.{no_prices}
+use Rattle.cantus_space.specs.PricedSheets.{priced_of}
 use Rattle.works.specs.declared.refusal.Refusal.{Refusal}
 use Rattle.works.specs.declared.refusal.Refusal.TheVariants as refusal
 use Rattle.works.specs.declared.work.Stop.{Stop}

@@ -18,7 +18,7 @@ use Rattle.command_words.specs.declared.command.FileKind.{FileKind}
 use Rattle.command_words.specs.declared.command.Job.{Job}
 use Rattle.command_words.specs.declared.command.MixedJob.TheVariants as mixed
 use Rattle.command_words.specs.declared.command.Job.TheVariants.{Compose, Best, Mark, Weigh, Cantus, CantusCharges, Print, ToSmf, ToXml, MarkXml, Picture, MarkPicture, ComposeNth}
-use Rattle.cantus_prices.specs.declared.prices.PricedSheet.{PricedSheet}
+use Rattle.cantus_space.specs.declared.prices.PricedSheet.{PricedSheet}
 use Rattle.penalty_sheet.specs.declared.sheet.Sheet.{Sheet}
 use Rattle.works.specs.Answered.{MarksAnswer}
 use Rattle.works.specs.CantusCertified.{MakesCantusCertificate}

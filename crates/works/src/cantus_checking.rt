@@ -22,7 +22,7 @@ use crate::making::{read_weights, said_within};
 use crate::weighing::priced_of;
 use crate::work::{Output, Stop, Unmade};
 use cantus_check::{CantusFault, check_cantus_file};
-use cantus_prices::PricedSheet;
+use cantus_space::PricedSheet;
 use class_marker::Text;
 use command_words::Wanted;
 use fux_port::Shelf;

@@ -35,7 +35,7 @@ use crate::refusal::{Refusal, refusal_text};
 use crate::rendering::{mark_picture, mark_xml, print, to_picture, to_smf, to_xml};
 use crate::weighing::{priced_of, sheet_of};
 use crate::work::{Halt, Output, Stop, Unmade, Verdict};
-use cantus_prices::PricedSheet;
+use cantus_space::PricedSheet;
 use class_marker::Text;
 use command_words::{Job, Making};
 use fux_grid::Exercise;

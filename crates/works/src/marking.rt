@@ -9,7 +9,7 @@ ghost use Rattle.works.specs.Works.{Answers};
 use crate::refusal::Refusal;
 use crate::work::{Output, Stop, Verdict};
 use cantus_charges::{bill_of, bill_text};
-use cantus_prices::PricedSheet;
+use cantus_space::PricedSheet;
 use class_marker::{MarkLines, lines_of};
 use fux_grid::Exercise;
 use fux_pitch::Memory;

@@ -8,7 +8,7 @@ ghost use Rattle.works.specs.Works.{AreContents};
 
 use crate::refusal::Refusal;
 use crate::work::Stop;
-use cantus_prices::{PricedSheet, no_prices, read_prices};
+use cantus_space::{PricedSheet, no_prices, read_prices};
 use class_marker::Text;
 use penalty_sheet::{Sheet, SheetFault, default_sheet};
 use std::alloc::Global;

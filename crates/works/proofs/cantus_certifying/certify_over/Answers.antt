@@ -1,5 +1,5 @@
 use Rattle.std.proofs.Common.{inl, subst, sym}
-use Rattle.cantus_prices.specs.declared.prices.CantusPrices.{CantusPrices}
+use Rattle.cantus_space.specs.declared.prices.CantusPrices.{CantusPrices}
 use Rattle.fux_port.specs.Promises.{Fails}
 use Rattle.works.specs.CantusCertified.{CertifiesPlan, MakesCantusCertificate}
 use Rattle.works.specs.Invented.{plan_of}

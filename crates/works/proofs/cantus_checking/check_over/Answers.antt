@@ -1,7 +1,7 @@
 use Rattle.std.proofs.Common.{◌≡◌, Err, ap, subst, sym, ◌∙◌}
 use Rattle.std.proofs.lemmas.Result.{IfOk-weaker, err_from_is_err_and}
 use Rattle.cantus_check.specs.Topics.{cantus_subject}
-use Rattle.cantus_prices.specs.declared.prices.CantusPrices.{CantusPrices}
+use Rattle.cantus_space.specs.declared.prices.CantusPrices.{CantusPrices}
 use Rattle.works.specs.Checked.{IsUnreadable}
 use Rattle.works.specs.Invented.{plan_of}
 use Rattle.works.specs.Near.{TellsNear}

@@ -1,5 +1,5 @@
 use Rattle.std.proofs.Common.{ap, subst}
-use Rattle.cantus_prices.proofs.PricedLemmas.{long_sheet}
+use Rattle.cantus_space.proofs.PricedLemmas.{long_sheet}
 use Rattle.class_marker.specs.Markings.{IsContent}
 use Rattle.works.specs.Sheets.{weights_alone}
 use Rattle.works.proofs.weighing.sheet_in.Goals as goal

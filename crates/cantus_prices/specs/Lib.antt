@@ -1,2 +1,0 @@
-pub mod PricedSheets
-pub mod Prices

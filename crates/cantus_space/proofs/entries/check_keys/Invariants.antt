@@ -1,0 +1,12 @@
+use Rattle.std.proofs.Common.{◌≡◌}
+use Rattle.toml.specs.View.{members_view}
+use Rattle.penalty_sheet.specs.Sheets.{first_fault}
+use Rattle.cantus_space.specs.PricedSheets.{key_fault}
+use Rattle.cantus_space.proofs.entries.check_keys.Given as goal
+
+-- what is wrong first is wrong with the entries that are left
+abbrev pub invariant-loop-key : goal.invariant-loop-key
+invariant-loop-key l =
+    (goal.iterator-loop-key).can_next l.key-iterator
+    × (goal.iterator-loop-key).is_finite l.key-iterator
+    × (first_fault key_fault (members_view l.key-iterator) ≡ first_fault key_fault (members_view l.document.entries))
