@@ -6,3 +6,5 @@ mod Trees
 mod PoolSteps
 mod RuleSets
 pub mod PricedLemmas
+pub mod BillLemmas
+pub mod ChargeLemmas

@@ -14,3 +14,5 @@ pub mod Paths
 pub mod Rules
 pub mod PricedSheets
 pub mod Prices
+pub mod ChargeLines
+pub mod Charges

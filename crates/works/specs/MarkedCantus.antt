@@ -1,7 +1,7 @@
 -- What `cantus` with a sheet writes.
 use Rattle.std.specs.Prelude.{◌≡◌, ℕ, ◌++◌, List, Ok, Err, string_bytes}
-use Rattle.cantus_charges.specs.ChargeLines.{bill_text}
-use Rattle.cantus_charges.specs.Charges.{cantus_charges}
+use Rattle.cantus_space.specs.ChargeLines.{bill_text}
+use Rattle.cantus_space.specs.Charges.{cantus_charges}
 use Rattle.cantus_space.specs.declared.prices.PricedSheet.{PricedSheet}
 use Rattle.class_marker.specs.declared.marking.MarkLines.{MarkLines}
 use Rattle.class_marker.specs.Markings.{TellsMarks}

@@ -8,8 +8,7 @@ ghost use Rattle.works.specs.Works.{Answers};
 
 use crate::refusal::Refusal;
 use crate::work::{Output, Stop, Verdict};
-use cantus_charges::{bill_of, bill_text};
-use cantus_space::PricedSheet;
+use cantus_space::{PricedSheet, bill_of, bill_text};
 use class_marker::{MarkLines, lines_of};
 use fux_grid::Exercise;
 use fux_pitch::Memory;

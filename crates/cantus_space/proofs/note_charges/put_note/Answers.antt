@@ -1,9 +1,9 @@
 use Rattle.std.proofs.Common.{◌≡◌, ◌++◌, OnOk, ap, subst, ◌∙◌}
 use Rattle.melody_rules.specs.Rows.{pitches}
 use Rattle.cantus_space.specs.Nodes.{started}
-use Rattle.cantus_charges.specs.Charges.{move_charges, open_charge, price_charges}
-use Rattle.cantus_charges.proofs.BillLemmas.{joined_three, note_by}
-use Rattle.cantus_charges.proofs.notes.put_note.Goals as goal
+use Rattle.cantus_space.specs.Charges.{move_charges, open_charge, price_charges}
+use Rattle.cantus_space.proofs.BillLemmas.{joined_three, note_by}
+use Rattle.cantus_space.proofs.note_charges.put_note.Goals as goal
 
 pub returns : goal.returns
 returns c = λ behind kept more.

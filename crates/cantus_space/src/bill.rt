@@ -1,12 +1,13 @@
 //! All that a cantus pays.
 
 ghost use Rattle.std.specs.Prelude.{◌≡◌, ◌≤◌, IfOk, length};
-ghost use Rattle.cantus_charges.specs.Charges.{IsBillOf};
+ghost use Rattle.cantus_space.specs.Charges.{IsBillOf};
 
 use crate::charge::Bill;
-use crate::notes::put_note;
+use crate::note_charges::put_note;
+use crate::prices::CantusPrices;
+use crate::space::CantusSpace;
 use crate::whole::put_line;
-use cantus_space::{CantusPrices, CantusSpace};
 use fux_pitch::{Memory, Mode, Pitch};
 use penalty_sheet::Sheet;
 use std::alloc::Global;

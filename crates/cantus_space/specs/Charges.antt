@@ -15,10 +15,10 @@ use Rattle.cantus_space.specs.declared.plan.CantusPlan.{CantusPlan}
 use Rattle.cantus_space.specs.Lawful.{penalty_of}
 use Rattle.cantus_space.specs.Melody.{climax_bar, is_altered, is_central, is_the, moves_one_way, price_if, stays_out}
 use Rattle.cantus_space.specs.Rules.{leap_excess}
-use Rattle.cantus_charges.specs.declared.charge.Bill.{Bill}
-use Rattle.cantus_charges.specs.declared.charge.CantusCharge.{CantusCharge}
-use Rattle.cantus_charges.specs.declared.charge.Penalty.{Penalty}
-use Rattle.cantus_charges.specs.declared.charge.Penalty.TheVariants.{Toll, Price}
+use Rattle.cantus_space.specs.declared.charge.Bill.{Bill}
+use Rattle.cantus_space.specs.declared.charge.CantusCharge.{CantusCharge}
+use Rattle.cantus_space.specs.declared.charge.Penalty.{Penalty}
+use Rattle.cantus_space.specs.declared.charge.Penalty.TheVariants.{Toll, Price}
 
 -- a penalty of this cost with the note of a bar, or of the whole line, where it costs something
 unfoldable pub charge_where : Option ℕ → Penalty → ℕ → List CantusCharge

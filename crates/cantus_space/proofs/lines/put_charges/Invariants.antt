@@ -1,6 +1,6 @@
 use Rattle.std.proofs.Common.{◌≡◌, ◌++◌, string_bytes, drop}
-use Rattle.cantus_charges.specs.ChargeLines.{charge_lines}
-use Rattle.cantus_charges.proofs.lines.put_charges.Given as goal
+use Rattle.cantus_space.specs.ChargeLines.{charge_lines}
+use Rattle.cantus_space.proofs.lines.put_charges.Given as goal
 
 -- what is written so far, and what is left, are what is to be written
 abbrev pub invariant-loop-charge : goal.invariant-loop-charge

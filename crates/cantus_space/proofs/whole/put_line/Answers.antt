@@ -1,8 +1,8 @@
 use Rattle.std.proofs.Common.{◌≡◌, ◌-◌, ◌++◌, OnOk, ap, refl, subst, ◌∙◌}
 use Rattle.std.specs.Int.{from_bool}
-use Rattle.cantus_charges.specs.Charges.{end_charges, gauge_charges}
-use Rattle.cantus_charges.proofs.BillLemmas.{compass_of, joined_two, line_by}
-use Rattle.cantus_charges.proofs.whole.put_line.Goals as goal
+use Rattle.cantus_space.specs.Charges.{end_charges, gauge_charges}
+use Rattle.cantus_space.proofs.BillLemmas.{compass_of, joined_two, line_by}
+use Rattle.cantus_space.proofs.whole.put_line.Goals as goal
 
 pub returns : goal.returns
 returns c = λ behind kept.

@@ -1,8 +1,8 @@
 -- What the reading of pitches keeps.
 use Rattle.std.proofs.Common.{◌≡◌, reverse, take}
 use Rattle.cantus_space.specs.Known.{IsKnownOf}
-use Rattle.cantus_charges.specs.Charges.{charges_of_notes}
-use Rattle.cantus_charges.proofs.bill.bill_of.Given as goal
+use Rattle.cantus_space.specs.Charges.{charges_of_notes}
+use Rattle.cantus_space.proofs.bill.bill_of.Given as goal
 
 -- the node is known of the pitches so far, and what they pay was told
 abbrev pub invariant-loop-i : goal.invariant-loop-i

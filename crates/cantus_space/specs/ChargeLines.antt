@@ -2,10 +2,10 @@
 use Rattle.std.specs.Prelude.{ℕ, List, ◌∷◌, [], ◌++◌, Option, Some, None, codes}
 use Rattle.std.specs.Fmt.{decimal}
 use Rattle.std.specs.List.{flat_map}
-use Rattle.cantus_charges.specs.declared.charge.CantusCharge.{CantusCharge}
-use Rattle.cantus_charges.specs.declared.charge.Penalty.{Penalty}
-use Rattle.cantus_charges.specs.declared.charge.Penalty.TheVariants.{Toll, Price}
-use Rattle.cantus_charges.specs.Charges.{sum_of}
+use Rattle.cantus_space.specs.declared.charge.CantusCharge.{CantusCharge}
+use Rattle.cantus_space.specs.declared.charge.Penalty.{Penalty}
+use Rattle.cantus_space.specs.declared.charge.Penalty.TheVariants.{Toll, Price}
+use Rattle.cantus_space.specs.Charges.{sum_of}
 
 -- where a charge stands: with the note of a bar, or over the whole line of the voice that has the
 -- cantus

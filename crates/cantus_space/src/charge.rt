@@ -1,7 +1,7 @@
 //! A charge.
 
 ghost use Rattle.std.specs.Prelude.{◌≡◌, ◌++◌, OnOk};
-ghost use Rattle.cantus_charges.specs.Charges.{charge_where};
+ghost use Rattle.cantus_space.specs.Charges.{charge_where};
 
 use fux_pitch::Memory;
 

@@ -2,9 +2,9 @@ use Rattle.std.proofs.Common.{◌≡◌, ◌++◌, List, refl, reverse, take, ap
 use Rattle.fux_pitch.specs.declared.pitch.Pitch.{Pitch}
 use Rattle.cantus_space.specs.declared.plan.CantusPlan.{CantusPlan}
 use Rattle.cantus_space.specs.Known.{IsKnownOf}
-use Rattle.cantus_charges.specs.Charges.{charges_of_line, charges_of_notes, note_charges}
-use Rattle.cantus_charges.proofs.BillLemmas.{bill_sum, front-count, front-more, front-whole}
-use Rattle.cantus_charges.proofs.bill.bill_of.Goals as goal
+use Rattle.cantus_space.specs.Charges.{charges_of_line, charges_of_notes, note_charges}
+use Rattle.cantus_space.proofs.BillLemmas.{bill_sum, front-count, front-more, front-whole}
+use Rattle.cantus_space.proofs.bill.bill_of.Goals as goal
 
 pub put_note-requires : goal.put_note-requires
 put_note-requires c =

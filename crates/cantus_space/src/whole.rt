@@ -4,10 +4,13 @@ ghost use Rattle.std.specs.Prelude.{◌≡◌, ◌≤◌, ◌++◌, List, OnOk};
 ghost use Rattle.fux_pitch.specs.declared.pitch.Pitch.{Pitch as APitch};
 ghost use Rattle.penalty_sheet.specs.Weights.{greatest_toll};
 ghost use Rattle.cantus_space.specs.Nodes.{HasPitches};
-ghost use Rattle.cantus_charges.specs.Charges as words;
+ghost use Rattle.cantus_space.specs.Charges as words;
 
 use crate::charge::{CantusCharge, Penalty, put};
-use cantus_space::{CantusNode, CantusPlan, CantusPrices, is_central, price, price_if};
+use crate::melody::{is_central, price_if};
+use crate::node::CantusNode;
+use crate::plan::CantusPlan;
+use crate::prices::{CantusPrices, price};
 use fux_pitch::Memory;
 use melody_rules::{Compass, is_narrow, leap_excess};
 use penalty_sheet::{Sheet, weight};

@@ -7,12 +7,13 @@ ghost use Rattle.fux_grid.specs.declared.cell.Cell.TheVariants.{Start};
 ghost use Rattle.melody_rules.specs.Notes.{IsNotesOf};
 ghost use Rattle.melody_rules.specs.Rows.{pays_move, pitches};
 ghost use Rattle.cantus_space.specs.Nodes.{HasPitches};
-ghost use Rattle.cantus_charges.specs.Charges as words;
+ghost use Rattle.cantus_space.specs.Charges as words;
 
 use crate::charge::{CantusCharge, Penalty, put};
-use cantus_space::{
-    CantusNode, CantusPlan, CantusPrices, is_altered, is_the, leaves_leap, price, price_if,
-};
+use crate::melody::{is_altered, is_the, leaves_leap, price_if};
+use crate::node::CantusNode;
+use crate::plan::CantusPlan;
+use crate::prices::{CantusPrices, price};
 use fux_grid::Cell;
 use fux_pitch::{Memory, Pitch};
 use melody_rules::{VoiceNotes, leap_open_after, toll_of_move};

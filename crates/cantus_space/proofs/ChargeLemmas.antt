@@ -15,10 +15,10 @@ use Rattle.cantus_space.specs.declared.prices.CantusPrices.{CantusPrices}
 use Rattle.cantus_space.specs.Prices.{price_of}
 use Rattle.cantus_space.specs.Melody.{charged, climax_bar, ends_by, ends_cost, is_altered, is_central, is_the, moves_one_way, note_charge, price_if, stays_out}
 use Rattle.cantus_space.specs.Rules.{gauge_cost, leap_excess, note_cost, paid}
-use Rattle.cantus_charges.specs.declared.charge.CantusCharge.{CantusCharge}
-use Rattle.cantus_charges.specs.declared.charge.Penalty.{Penalty}
-use Rattle.cantus_charges.specs.declared.charge.Penalty.TheVariants.{Toll, Price}
-use Rattle.cantus_charges.specs.Charges.{CantusChargesArePenalty, charge_where, charges_of_line, charges_of_notes, end_charges, gauge_charge, gauge_charges, move_charge, move_charges, note_charges, open_charge, price_charge, price_charges, sum_of}
+use Rattle.cantus_space.specs.declared.charge.CantusCharge.{CantusCharge}
+use Rattle.cantus_space.specs.declared.charge.Penalty.{Penalty}
+use Rattle.cantus_space.specs.declared.charge.Penalty.TheVariants.{Toll, Price}
+use Rattle.cantus_space.specs.Charges.{CantusChargesArePenalty, charge_where, charges_of_line, charges_of_notes, end_charges, gauge_charge, gauge_charges, move_charge, move_charges, note_charges, open_charge, price_charge, price_charges, sum_of}
 
 sum_where : (bar : Option ℕ) (penalty : Penalty) (cost : ℕ) → sum_of (charge_where bar penalty cost) ≡ cost
 unfolding charge_where

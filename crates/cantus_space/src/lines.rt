@@ -1,8 +1,8 @@
 //! The lines that tell what a cantus pays.
 
 ghost use Rattle.std.specs.Prelude.{◌≡◌, ◌++◌, IfOk, OnOk, string_bytes};
-ghost use Rattle.cantus_charges.specs.ChargeLines as words;
-ghost use Rattle.cantus_charges.specs.Charges.{sum_of};
+ghost use Rattle.cantus_space.specs.ChargeLines as words;
+ghost use Rattle.cantus_space.specs.Charges.{sum_of};
 
 use crate::charge::{Bill, CantusCharge, Penalty};
 use fux_pitch::Memory;

@@ -21,9 +21,9 @@ use Rattle.cantus_space.specs.Lawful.{penalty_of}
 use Rattle.cantus_space.specs.Melody.{climax_bar}
 use Rattle.cantus_space.specs.Nodes.{HasPitches, started}
 use Rattle.cantus_space.specs.Rules.{floor_of, leap_excess}
-use Rattle.cantus_charges.specs.declared.charge.CantusCharge.{CantusCharge}
-use Rattle.cantus_charges.specs.Charges.{cantus_charges, charges_of_line, end_charges, gauge_charges, move_charges, note_charges, open_charge, price_charges, sum_of}
-use Rattle.cantus_charges.proofs.ChargeLemmas.{charges_are_penalty}
+use Rattle.cantus_space.specs.declared.charge.CantusCharge.{CantusCharge}
+use Rattle.cantus_space.specs.Charges.{cantus_charges, charges_of_line, end_charges, gauge_charges, move_charges, note_charges, open_charge, price_charges, sum_of}
+use Rattle.cantus_space.proofs.ChargeLemmas.{charges_are_penalty}
 
 -- ---- lists to which more is appended
 

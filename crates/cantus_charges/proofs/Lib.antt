@@ -1,2 +1,0 @@
-pub mod BillLemmas
-pub mod ChargeLemmas

@@ -1,2 +1,0 @@
-pub mod ChargeLines
-pub mod Charges
