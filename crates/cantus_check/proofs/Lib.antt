@@ -1,3 +1,4 @@
 pub mod AnswerLemmas
 pub mod RefusedLemmas
 pub mod StartLemmas
+pub mod Fits

@@ -2,14 +2,16 @@
 //! read, and tells what the file is found to be. It knows nothing of the search.
 #![tactic(auto)]
 
+mod certificate;
 mod checker;
 mod checking;
+mod copy;
 mod one_verdict;
 mod starting;
 
 pub use cert_file::{Checks, Verdict};
 pub use cert_text::{Accepted, Refused, Why};
+pub use certificate::certify_cantus;
 pub use checker::{CantusChecker, CantusOpen};
 pub use checking::{CantusFault, check_cantus_file};
 pub use one_verdict::verdicts_are_one;
-pub use starting::start;

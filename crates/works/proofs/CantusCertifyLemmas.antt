@@ -7,7 +7,7 @@ use Rattle.cantus_law.specs.Claims.{Said}
 use Rattle.cantus_law.proofs.WrittenCantus.{written_is_valid}
 use Rattle.cantus_space.specs.Answers.{IsBestWithin, IsLeastOver, IsNothingWithin}
 use Rattle.cantus_space.specs.declared.plan.CantusPlan.{CantusPlan}
-use Rattle.cantus_writer.specs.Writing.{written_certificate}
+use Rattle.cantus_check.specs.Writing.{written_certificate}
 use Rattle.fux_pitch.specs.declared.pitch.Pitch.{Pitch}
 use Rattle.fux_port.specs.Written.{StopsShort, appended}
 use Rattle.works.specs.declared.refusal.Refusal.TheVariants as refusal

@@ -6,7 +6,7 @@ use Rattle.cantus_law.specs.Claims.{Said}
 use Rattle.cantus_law.specs.Writer.{claims_of}
 use Rattle.cantus_space.specs.Answers.{IsBestWithin, IsLeastOver, IsNothingWithin}
 use Rattle.cantus_space.specs.declared.plan.CantusPlan.{CantusPlan}
-use Rattle.cantus_writer.specs.Writing.{written_certificate}
+use Rattle.cantus_check.specs.Writing.{written_certificate}
 use Rattle.cert_file.specs.Readings.{longest_certificate}
 use Rattle.cert_file.specs.Subjects.{IsCertificateText}
 use Rattle.fux_pitch.specs.declared.pitch.Pitch.{Pitch}

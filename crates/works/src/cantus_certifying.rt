@@ -2,7 +2,7 @@
 
 ghost use Rattle.std.specs.Prelude.{◌≡◌, IfErr, ℕ, List};
 ghost use Rattle.cantus_law.specs.Certificates.{Holds};
-ghost use Rattle.cantus_writer.specs.Heads.{said_with};
+ghost use Rattle.cantus_check.specs.WrittenHeads.{said_with};
 ghost use Rattle.works.specs.Blame.{Blames, BlamesNoFile, IsUnserved, ServesNames};
 ghost use Rattle.works.specs.Little.{ReadsLittle};
 ghost use Rattle.works.specs.CantusCertified.{CertifiesPlan, CertifiesSaid, MakesCantusCertificate};
@@ -119,7 +119,7 @@ fn put_certificate<K: Sink>(
     ensures { WritesTo K.written K.faults K.serves (CertifiesSaid space.now (said_with best.entry)
         verdict) out.old out.new result }
 {
-    match cantus_writer::certify_cantus(alloc, space, best, out) {
+    match cantus_check::certify_cantus(alloc, space, best, out) {
         Ok(()) => Ok(verdict),
         Err(CertWrite::WriteFault) => Err(Halt::Unwritable),
         Err(CertWrite::TooLong) => Err(Halt::Stopped(Stop::Refused(Refusal::LongCertificate))),

@@ -1,6 +1,6 @@
 use Rattle.std.proofs.Common.{Err, ap, inl, inr, ◌∙◌}
 use Rattle.fux_port.specs.Promises.{Fails}
-use Rattle.cantus_writer.specs.Heads.{said_with}
+use Rattle.cantus_check.specs.WrittenHeads.{said_with}
 use Rattle.works.proofs.CantusCertifyLemmas.{all_written, part_written, too_long}
 use Rattle.works.proofs.cantus_certifying.put_certificate.Goals as goal
 

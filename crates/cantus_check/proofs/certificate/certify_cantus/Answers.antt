@@ -4,11 +4,11 @@ use Rattle.cert_text.specs.declared.answers.CertWrite.TheVariants.{WriteFault}
 use Rattle.cantus_law.specs.Claims.{Said}
 use Rattle.cantus_law.proofs.WrittenCantus.{written_is_valid}
 use Rattle.cantus_space.specs.declared.plan.CantusPlan.{CantusPlan}
-use Rattle.cantus_writer.specs.Heads.{said_with}
-use Rattle.cantus_writer.specs.Writing.{written_certificate}
+use Rattle.cantus_check.specs.WrittenHeads.{said_with}
+use Rattle.cantus_check.specs.Writing.{written_certificate}
 use Rattle.claim_writer.specs.Ends.{FailsShort}
 use Rattle.fux_port.specs.Written.{appended}
-use Rattle.cantus_writer.proofs.certificate.certify_cantus.Goals as goal
+use Rattle.cantus_check.proofs.certificate.certify_cantus.Goals as goal
 
 pub returns-in_default-clause-valid : goal.returns-in_default-clause-valid
 returns-in_default-clause-valid g c = written_is_valid c.args.space.now (said_with c.args.best) c.requires.holds

@@ -1,7 +1,7 @@
 //! What a certificate is about, of a space and a cantus that are lent.
 
 ghost use Rattle.std.specs.Prelude.{◌≡◌, IfOk};
-ghost use Rattle.cantus_writer.specs.Heads.{said_with};
+ghost use Rattle.cantus_check.specs.WrittenHeads.{said_with};
 
 use cantus_law::CantusCase;
 use cantus_space::CantusSpace;

@@ -3,11 +3,11 @@ use Rattle.std.specs.Prelude.{OnOk}
 use Rattle.cert_text.specs.declared.answers.CertWrite.TheVariants.{TooLong, WriteFault}
 use Rattle.cantus_law.specs.Writer.{claims_of}
 use Rattle.cantus_law.proofs.WrittenCantus.{all_true}
-use Rattle.cantus_writer.proofs.Fits.{own_fits}
+use Rattle.cantus_check.proofs.Fits.{own_fits}
 use Rattle.claim_writer.specs.Ends.{EndsUnwritten, FailsShort}
 use Rattle.claim_writer.specs.Writing.{claim_lines}
 use Rattle.fux_port.specs.Written.{appended}
-use Rattle.cantus_writer.proofs.certificate.write_for_case.Goals as goal
+use Rattle.cantus_check.proofs.certificate.write_for_case.Goals as goal
 
 pub write_with_claims-requires-clause-told : goal.write_with_claims-requires-clause-told
 write_with_claims-requires-clause-told g c =

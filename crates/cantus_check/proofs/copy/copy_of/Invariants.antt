@@ -1,5 +1,5 @@
 use Rattle.std.proofs.Common.{◌≡◌, take}
-use Rattle.cantus_writer.proofs.copy.copy_of.Given as goal
+use Rattle.cantus_check.proofs.copy.copy_of.Given as goal
 
 -- so many pitches are copied
 abbrev pub invariant-loop-pitch : goal.invariant-loop-pitch

@@ -3,8 +3,8 @@
 ghost use Rattle.std.specs.Prelude.{◌≡◌, ◌≢◌, ◌<◌, ◌≤◌, Err, OnOk, length};
 ghost use Rattle.cantus_law.specs.Certificates.{Holds, IsCantusCertificate};
 ghost use Rattle.cantus_law.specs.Writer.{claims_of};
-ghost use Rattle.cantus_writer.specs.Heads.{said_with};
-ghost use Rattle.cantus_writer.specs.Writing.{written_certificate};
+ghost use Rattle.cantus_check.specs.WrittenHeads.{said_with};
+ghost use Rattle.cantus_check.specs.Writing.{written_certificate};
 ghost use Rattle.claim_writer.specs.Ends.{EndsUnwritten, FailsShort};
 ghost use Rattle.fux_port.specs.Counts.{Rose};
 ghost use Rattle.fux_port.specs.Written.{appended};
