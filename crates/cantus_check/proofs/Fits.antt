@@ -10,9 +10,9 @@ use Rattle.fux_pitch.specs.declared.pitch.Pitch.{Pitch}
 use Rattle.cantus_space.specs.Broken.{rules_claimed}
 use Rattle.cantus_space.specs.Rules.{floor_of}
 use Rattle.cantus_space.specs.declared.plan.CantusPlan.{CantusPlan}
-use Rattle.cantus_law.specs.Certificates.{tree_of}
-use Rattle.cantus_law.specs.Claims.{Said, has_break_of}
-use Rattle.cantus_law.specs.Writer.{claims_of, first_claim, is_cantus_of, is_no_better, least_break, unbroken_claim}
+use Rattle.cantus_check.specs.Certificates.{tree_of}
+use Rattle.cantus_check.specs.Claims.{Said, has_break_of}
+use Rattle.cantus_check.specs.Writer.{claims_of, first_claim, is_cantus_of, is_no_better, least_break, unbroken_claim}
 
 -- ---- the claims of a certificate
 

@@ -2,3 +2,9 @@ pub mod AnswerLemmas
 pub mod RefusedLemmas
 pub mod StartLemmas
 pub mod Fits
+pub mod OrderSteps
+pub mod PoolHeads
+pub mod PoolLists
+pub mod Tellings
+pub mod Unrefuted
+pub mod WrittenCantus

@@ -11,8 +11,8 @@ use Rattle.cert_text.specs.declared.answers.Why.{Why}
 use Rattle.cert_text.specs.declared.answers.Why.TheVariants.{Head}
 use Rattle.cert_text.specs.Pieces.{GoesTo, Stands}
 use Rattle.cert_text.proofs.Fronts.{at_front, stands-one}
-use Rattle.cantus_law.specs.Certificates.{IsHeadSound}
-use Rattle.cantus_law.specs.Claims.{Said}
+use Rattle.cantus_check.specs.Certificates.{IsHeadSound}
+use Rattle.cantus_check.specs.Claims.{Said}
 use Rattle.cantus_space.specs.declared.plan.CantusPlan.{CantusPlan}
 use Rattle.cantus_text.specs.Heads.{IsHeadText}
 use Rattle.cantus_text.proofs.HeadRows.{heads-alone}

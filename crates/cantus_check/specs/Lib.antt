@@ -3,3 +3,12 @@ pub mod Starts
 pub mod Topics
 pub mod WrittenHeads
 pub mod Writing
+pub mod Begun
+pub mod Certificates
+pub mod Claims
+pub mod Excluded
+pub mod Known
+pub mod Orders
+pub mod Pools
+pub mod WayLaws
+pub mod Writer

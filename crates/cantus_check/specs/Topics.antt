@@ -13,10 +13,10 @@ use Rattle.cert_tree.specs.Judgings.{IsKept}
 use Rattle.cert_tree.specs.declared.judging.Judging.{Judging}
 use Rattle.fux_pitch.specs.declared.pitch.Pitch.{Pitch}
 use Rattle.cantus_space.specs.declared.plan.CantusPlan.{CantusPlan}
-use Rattle.cantus_law.specs.Certificates.{Begins, Holds, IsHeadSound, Refutes, tree_of}
-use Rattle.cantus_law.specs.Claims.{Said}
-use Rattle.cantus_law.specs.Known.{IsJudged, ways_of}
-use Rattle.cantus_law.specs.declared.known.CantusKnown.{CantusKnown}
+use Rattle.cantus_check.specs.Certificates.{Begins, Holds, IsHeadSound, Refutes, tree_of}
+use Rattle.cantus_check.specs.Claims.{Said}
+use Rattle.cantus_check.specs.Known.{IsJudged, ways_of}
+use Rattle.cantus_check.specs.declared.known.CantusKnown.{CantusKnown}
 use Rattle.cantus_text.specs.Heads.{IsHeadText}
 use Rattle.cantus_check.specs.declared.checker.CantusOpen.{CantusOpen}
 use Rattle.cantus_check.specs.declared.checker.CantusOpen.TheVariants as opening

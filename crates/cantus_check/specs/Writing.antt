@@ -2,8 +2,8 @@
 use Rattle.std.specs.Prelude.{ℕ, List, ◌++◌}
 use Rattle.claim_writer.specs.Writing.{claim_lines}
 use Rattle.cantus_space.specs.declared.plan.CantusPlan.{CantusPlan}
-use Rattle.cantus_law.specs.Claims.{Said}
-use Rattle.cantus_law.specs.Writer.{claims_of}
+use Rattle.cantus_check.specs.Claims.{Said}
+use Rattle.cantus_check.specs.Writer.{claims_of}
 use Rattle.cantus_text.specs.Heads.{head_text}
 
 -- the certificate that is written for a head

@@ -1,16 +1,16 @@
 //! Writing a whole certificate.
 
 ghost use Rattle.std.specs.Prelude.{◌≡◌, ◌≢◌, ◌<◌, ◌≤◌, Err, OnOk, length};
-ghost use Rattle.cantus_law.specs.Certificates.{Holds, IsCantusCertificate};
-ghost use Rattle.cantus_law.specs.Writer.{claims_of};
+ghost use Rattle.cantus_check.specs.Certificates.{Holds, IsCantusCertificate};
+ghost use Rattle.cantus_check.specs.Writer.{claims_of};
 ghost use Rattle.cantus_check.specs.WrittenHeads.{said_with};
 ghost use Rattle.cantus_check.specs.Writing.{written_certificate};
 ghost use Rattle.claim_writer.specs.Ends.{EndsUnwritten, FailsShort};
 ghost use Rattle.fux_port.specs.Counts.{Rose};
 ghost use Rattle.fux_port.specs.Written.{appended};
 
+use crate::case::CantusCase;
 use crate::copy::case_of;
-use cantus_law::CantusCase;
 use cantus_space::CantusSpace;
 use cantus_text::cantus_head_text;
 use cert_text::CertWrite;

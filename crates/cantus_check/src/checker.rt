@@ -2,12 +2,13 @@
 
 ghost use Rattle.std.specs.Prelude.{◌≡◌, true, false, [], None, IfErr, IfOk, OnOk};
 ghost use Rattle.cert_tree.specs.Trees.{OwesRefuting};
-ghost use Rattle.cantus_law.specs.Certificates.{Begins, IsHeadSound, Refutes};
+ghost use Rattle.cantus_check.specs.Certificates.{Begins, IsHeadSound, Refutes};
 ghost use Rattle.cantus_space.specs.Lawful.{IsLawful, penalty_of};
 ghost use Rattle.cantus_check.specs.Topics.{TellsWhy};
 ghost use Rattle.cert_file.specs.Checking.{opened_at};
 
-use cantus_law::{CantusCase, CantusKnown};
+use crate::case::CantusCase;
+use crate::known::CantusKnown;
 use cantus_space::{CantusSpace, lawful_penalty};
 use cantus_text::CantusHead;
 use cert_file::{Checks, refused_by};
@@ -42,7 +43,7 @@ impl Model for CantusChecker {
     ghost use Rattle.cantus_check.specs.Topics.{IsChecking};
     ghost use Rattle.cert_file.specs.Checking.{Checking, refused_by};
     ghost use Rattle.fux_pitch.specs.declared.pitch.Pitch.{Pitch as APitch};
-    ghost use Rattle.cantus_law.specs.Known.{ways_of};
+    ghost use Rattle.cantus_check.specs.Known.{ways_of};
     ghost use Rattle.cert_tree.specs.Walks.{owed_by_walk};
 
     ghost Value = { Checking APlan ASaid (Items APitch) };

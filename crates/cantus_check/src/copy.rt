@@ -3,7 +3,7 @@
 ghost use Rattle.std.specs.Prelude.{◌≡◌, IfOk};
 ghost use Rattle.cantus_check.specs.WrittenHeads.{said_with};
 
-use cantus_law::CantusCase;
+use crate::case::CantusCase;
 use cantus_space::CantusSpace;
 use cantus_text::CantusHead;
 use fux_pitch::{List, Memory, Pitch};

@@ -4,7 +4,7 @@ use Rattle.std.proofs.Common.{◌≡◌, ◌≢◌, ℕ, ◌⊎◌, List, None, 
 use Rattle.std.proofs.Math.Seq.{take-append_seam}
 use Rattle.std.specs.List.{flat_map}
 use Rattle.cantus_check.specs.Topics as cantus
-use Rattle.cantus_law.specs.Claims.{Said}
+use Rattle.cantus_check.specs.Claims.{Said}
 use Rattle.cantus_space.specs.declared.plan.CantusPlan.{CantusPlan}
 use Rattle.cert_check.proofs.LargeTexts.{small_stays}
 use Rattle.cert_check.specs.Settings.{HasLargeLists}

@@ -2,9 +2,9 @@
 -- `too_long`), and what it is of the best cantus (`of_best`, `of_none`, `of_bound`).
 use Rattle.std.proofs.Common.{◌≡◌, ℕ, ◌<◌, ◌≤◌, ◌^◌, List, None, Some, Option, Result, Ok, Err, length, inl, inr, refl}
 use Rattle.std.proofs.lemmas.Bool.Decides.{leb_tells}
-use Rattle.cantus_law.specs.Certificates.{Holds}
-use Rattle.cantus_law.specs.Claims.{Said}
-use Rattle.cantus_law.proofs.WrittenCantus.{written_is_valid}
+use Rattle.cantus_check.specs.Certificates.{Holds}
+use Rattle.cantus_check.specs.Claims.{Said}
+use Rattle.cantus_check.proofs.WrittenCantus.{written_is_valid}
 use Rattle.cantus_space.specs.Answers.{IsBestWithin, IsLeastOver, IsNothingWithin}
 use Rattle.cantus_space.specs.declared.plan.CantusPlan.{CantusPlan}
 use Rattle.cantus_check.specs.Writing.{written_certificate}

@@ -6,7 +6,7 @@ use Rattle.cantus_check.specs.Topics.{cantus_subject}
 use Rattle.cantus_check.proofs.RefusedLemmas.{cantus_once}
 use Rattle.cert_file.specs.Judgments as cert
 use Rattle.cert_file.proofs.OneVerdict.{one_verdict}
-use Rattle.cantus_law.specs.Claims.{Said}
+use Rattle.cantus_check.specs.Claims.{Said}
 use Rattle.cantus_space.specs.declared.prices.CantusPrices.{CantusPrices}
 use Rattle.cantus_space.specs.declared.prices.PricedSheet.{PricedSheet}
 use Rattle.cantus_space.specs.declared.plan.CantusPlan.{CantusPlan}

@@ -5,8 +5,8 @@ use Rattle.std.specs.Prelude.{IfSome}
 use Rattle.std.specs.List.{AllByRecursion, flat_map}
 use Rattle.std.proofs.lemmas.List.{take_all}
 use Rattle.std.proofs.lemmas.List.Elements.{All-from_get_or}
-use Rattle.cantus_law.specs.Claims.{Said}
-use Rattle.cantus_law.specs.Writer as of_cantus
+use Rattle.cantus_check.specs.Claims.{Said}
+use Rattle.cantus_check.specs.Writer as of_cantus
 use Rattle.cantus_space.specs.Lawful.{IsLawful as IsLawfulCantus}
 use Rattle.cantus_space.specs.declared.plan.CantusPlan.{CantusPlan}
 use Rattle.cantus_text.specs.Heads as cantus

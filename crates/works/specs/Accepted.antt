@@ -1,7 +1,7 @@
 -- What `certify` and `certcantus` write, `check` and `checkcantus` accept.
 use Rattle.std.specs.Prelude.{◌≡◌, ◌≢◌, ℕ, List, Ok}
 use Rattle.cantus_check.specs.Topics as cantus
-use Rattle.cantus_law.specs.Claims.{Said}
+use Rattle.cantus_check.specs.Claims.{Said}
 use Rattle.cert_check.specs.Settings.{accepted_of}
 use Rattle.cert_file.specs.declared.verdict.Verdict.TheVariants.{Accepted}
 use Rattle.cert_text.specs.declared.answers.CertHead.{CertHead}

@@ -1,9 +1,9 @@
 -- What `certcantus` makes of a mode, a number of bars and a range, over a sheet of weights.
 use Rattle.std.specs.Prelude.{◌≡◌, ◌≢◌, ℕ, ◌<◌, ◌≤◌, List, None, Some, Ok, Err, length}
 use Rattle.cantus_check.specs.Topics.{cantus_subject}
-use Rattle.cantus_law.specs.Certificates.{IsCantusCertificate}
-use Rattle.cantus_law.specs.Claims.{Said}
-use Rattle.cantus_law.specs.Writer.{claims_of}
+use Rattle.cantus_check.specs.Certificates.{IsCantusCertificate}
+use Rattle.cantus_check.specs.Claims.{Said}
+use Rattle.cantus_check.specs.Writer.{claims_of}
 use Rattle.cantus_space.specs.Answers.{IsBestWithin, IsLeastOver, IsNothingWithin}
 use Rattle.cantus_space.specs.declared.plan.CantusPlan.{CantusPlan}
 use Rattle.cantus_check.specs.Writing.{written_certificate}

@@ -3,8 +3,8 @@
 use Rattle.std.specs.Prelude.{◌≡◌, ℕ, List, Ok, Err}
 use Rattle.cantus_check.specs.Answers.{IsVerdictOn}
 use Rattle.cantus_check.specs.Topics.{accepted_of, cantus_subject}
-use Rattle.cantus_law.specs.Certificates.{Holds}
-use Rattle.cantus_law.specs.Claims.{Said}
+use Rattle.cantus_check.specs.Certificates.{Holds}
+use Rattle.cantus_check.specs.Claims.{Said}
 use Rattle.cantus_space.specs.declared.plan.CantusPlan.{CantusPlan}
 use Rattle.cert_file.specs.Readings.{Files, MayBe}
 use Rattle.cert_file.specs.Subjects.{IsCertificateText}

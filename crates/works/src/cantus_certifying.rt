@@ -1,7 +1,7 @@
 //! The command `certcantus`.
 
 ghost use Rattle.std.specs.Prelude.{◌≡◌, IfErr, ℕ, List};
-ghost use Rattle.cantus_law.specs.Certificates.{Holds};
+ghost use Rattle.cantus_check.specs.Certificates.{Holds};
 ghost use Rattle.cantus_check.specs.WrittenHeads.{said_with};
 ghost use Rattle.works.specs.Blame.{Blames, BlamesNoFile, IsUnserved, ServesNames};
 ghost use Rattle.works.specs.Little.{ReadsLittle};

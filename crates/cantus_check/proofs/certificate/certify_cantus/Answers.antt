@@ -1,8 +1,8 @@
 use Rattle.std.proofs.Common.{◌≡◌, ◌≢◌, Err, length, subst}
 use Rattle.std.specs.Prelude.{OnOk}
 use Rattle.cert_text.specs.declared.answers.CertWrite.TheVariants.{WriteFault}
-use Rattle.cantus_law.specs.Claims.{Said}
-use Rattle.cantus_law.proofs.WrittenCantus.{written_is_valid}
+use Rattle.cantus_check.specs.Claims.{Said}
+use Rattle.cantus_check.proofs.WrittenCantus.{written_is_valid}
 use Rattle.cantus_space.specs.declared.plan.CantusPlan.{CantusPlan}
 use Rattle.cantus_check.specs.WrittenHeads.{said_with}
 use Rattle.cantus_check.specs.Writing.{written_certificate}

@@ -1,8 +1,8 @@
 use Rattle.std.proofs.Common.{◌≡◌, ◌≢◌, ◌<◌, ◌++◌, ℕ, Err, List, length, ap, ◌∙◌, subst}
 use Rattle.std.specs.Prelude.{OnOk}
 use Rattle.cert_text.specs.declared.answers.CertWrite.TheVariants.{TooLong, WriteFault}
-use Rattle.cantus_law.specs.Writer.{claims_of}
-use Rattle.cantus_law.proofs.WrittenCantus.{all_true}
+use Rattle.cantus_check.specs.Writer.{claims_of}
+use Rattle.cantus_check.proofs.WrittenCantus.{all_true}
 use Rattle.cantus_check.proofs.Fits.{own_fits}
 use Rattle.claim_writer.specs.Ends.{EndsUnwritten, FailsShort}
 use Rattle.claim_writer.specs.Writing.{claim_lines}

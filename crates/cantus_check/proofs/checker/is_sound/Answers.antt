@@ -1,7 +1,7 @@
 use Rattle.std.proofs.Common.{◌≡◌, List, subst, sym}
 use Rattle.fux_pitch.specs.declared.pitch.Pitch.{Pitch}
 use Rattle.cantus_space.specs.Lawful.{IsLawful, penalty_of}
-use Rattle.cantus_law.specs.Certificates.{IsHeadSound}
+use Rattle.cantus_check.specs.Certificates.{IsHeadSound}
 use Rattle.cantus_check.proofs.checker.is_sound.Goals as goal
 
 pub returns-in-Some-clause-sound : goal.returns-in-Some-clause-sound

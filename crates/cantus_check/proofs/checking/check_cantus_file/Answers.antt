@@ -4,7 +4,7 @@ use Rattle.cert_file.specs.declared.verdict.Verdict.{Verdict}
 use Rattle.fux_port.specs.Counts.{Rose}
 use Rattle.cantus_check.specs.Answers.{Answers}
 use Rattle.cantus_check.specs.Topics.{cantus_subject}
-use Rattle.cantus_law.specs.Claims.{Said}
+use Rattle.cantus_check.specs.Claims.{Said}
 use Rattle.cantus_space.specs.declared.plan.CantusPlan.{CantusPlan}
 use Rattle.cantus_text.specs.Heads.{IsHeadText}
 use Rattle.cert_file.specs.Checking.{Checking, opened_at}

@@ -2,7 +2,7 @@ use Rattle.std.proofs.Common.{Err, OnOk, ap, sym, ◌∙◌, subst}
 use Rattle.std.specs.Prelude.{IfErr, Result}
 use Rattle.cert_text.specs.declared.answers.Refused.{Refused}
 use Rattle.cert_tree.specs.Judgings.{standing_of}
-use Rattle.cantus_law.specs.Known.{ways_of}
+use Rattle.cantus_check.specs.Known.{ways_of}
 use Rattle.cantus_check.specs.Topics.{cantus_subject}
 use Rattle.cert_file.specs.Checking.{Refuses, Takes}
 use Rattle.cert_file.proofs.CheckingLemmas.{refused_seen, seen_at, taken_seen}

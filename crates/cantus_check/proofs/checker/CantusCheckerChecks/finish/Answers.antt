@@ -1,11 +1,11 @@
 use Rattle.std.proofs.Common.{◌≡◌, List, Some, ap, subst, ◌∙◌}
 use Rattle.std.specs.Prelude.{option_map}
 use Rattle.cert_tree.specs.Judgings.{standing_of}
-use Rattle.cantus_law.specs.Certificates.{Holds}
-use Rattle.cantus_law.specs.Known.{ways_of}
-use Rattle.cantus_law.proofs.Unrefuted.{unrefuted_holds}
+use Rattle.cantus_check.specs.Certificates.{Holds}
+use Rattle.cantus_check.specs.Known.{ways_of}
+use Rattle.cantus_check.proofs.Unrefuted.{unrefuted_holds}
 use Rattle.cantus_space.specs.declared.plan.CantusPlan.{CantusPlan}
-use Rattle.cantus_law.specs.Claims.{Said}
+use Rattle.cantus_check.specs.Claims.{Said}
 use Rattle.cantus_check.specs.Topics.{cantus_subject}
 use Rattle.cert_file.specs.Checking.{Checking, refused_by}
 use Rattle.cert_file.proofs.CheckingLemmas.{certificate_seen, none_certified, some_seen}

@@ -1,5 +1,0 @@
-use Rattle.cantus_law.proofs.WrittenCantus.{written_is_valid}
-use Rattle.cantus_law.proofs.law.written.Goals as goal
-
-pub returns : goal.returns
-returns c = written_is_valid c.args.case.now.space c.args.case.now.head.best

@@ -1,9 +1,0 @@
-pub mod Begun
-pub mod Certificates
-pub mod Claims
-pub mod Excluded
-pub mod Known
-pub mod Orders
-pub mod Pools
-pub mod WayLaws
-pub mod Writer
