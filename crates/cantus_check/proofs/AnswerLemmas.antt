@@ -10,9 +10,9 @@ use Rattle.cert_file.specs.declared.verdict.Verdict.TheVariants as verdict
 use Rattle.cert_text.specs.declared.answers.CertFault.TheVariants.{CertHead as WrongHead, CertWord, CertEnd, Memory}
 use Rattle.cert_text.specs.declared.answers.Refused.{Refused}
 use Rattle.cantus_space.specs.declared.plan.CantusPlan.{CantusPlan}
-use Rattle.cantus_text.specs.declared.head.CantusHead.{CantusHead}
-use Rattle.cantus_text.specs.Heads.{IsHeadText, Said}
-use Rattle.cantus_text.proofs.HeadRows.{heads-alone}
+use Rattle.cantus_check.specs.declared.head.CantusHead.{CantusHead}
+use Rattle.cantus_check.specs.Heads.{IsHeadText, Said}
+use Rattle.cantus_check.proofs.HeadRows.{heads-alone}
 use Rattle.cantus_check.specs.declared.checker.CantusOpen.{CantusOpen}
 use Rattle.cantus_check.specs.declared.checker.CantusOpen.TheVariants as opening
 use Rattle.cantus_check.specs.declared.checking.CantusFault.{CantusFault}

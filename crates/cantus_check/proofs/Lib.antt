@@ -8,3 +8,5 @@ pub mod PoolLists
 pub mod Tellings
 pub mod Unrefuted
 pub mod WrittenCantus
+pub mod HeadRows
+pub mod NameRows

@@ -14,8 +14,8 @@ use Rattle.cert_text.proofs.Fronts.{at_front, stands-one}
 use Rattle.cantus_check.specs.Certificates.{IsHeadSound}
 use Rattle.cantus_check.specs.Claims.{Said}
 use Rattle.cantus_space.specs.declared.plan.CantusPlan.{CantusPlan}
-use Rattle.cantus_text.specs.Heads.{IsHeadText}
-use Rattle.cantus_text.proofs.HeadRows.{heads-alone}
+use Rattle.cantus_check.specs.Heads.{IsHeadText}
+use Rattle.cantus_check.proofs.HeadRows.{heads-alone}
 use Rattle.cantus_check.specs.Topics.{IsUnsound, Refuses, cantus_subject}
 
 module _ (plan : CantusPlan) (bytes : List ℕ) where

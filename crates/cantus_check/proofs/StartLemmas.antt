@@ -9,9 +9,9 @@ use Rattle.cert_file.proofs.PieceLemmas.{nothing_begins}
 use Rattle.cert_text.specs.declared.answers.CertFault.{CertFault}
 use Rattle.cert_text.specs.declared.answers.CertFault.TheVariants.{CertHead, Memory}
 use Rattle.cert_text.specs.Pieces.{GoesTo, Stands}
-use Rattle.cantus_text.specs.Heads.{IsHeadText, Said}
+use Rattle.cantus_check.specs.Heads.{IsHeadText, Said}
 use Rattle.cert_text.proofs.Fronts.{goes_to-whole}
-use Rattle.cantus_text.proofs.HeadRows.{heads_are_short}
+use Rattle.cantus_check.proofs.HeadRows.{heads_are_short}
 use Rattle.cantus_check.specs.Starts.{Starts}
 use Rattle.cert_file.specs.Subjects.{IsOpened}
 

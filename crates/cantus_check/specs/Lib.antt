@@ -12,3 +12,5 @@ pub mod Orders
 pub mod Pools
 pub mod WayLaws
 pub mod Writer
+pub mod Heads
+pub mod Rows

@@ -4,9 +4,9 @@ use Rattle.cert_file.specs.Readings.{Files, MayBe, Reading}
 use Rattle.cert_file.specs.declared.fault.ReadFault.{ReadFault}
 use Rattle.cert_file.specs.declared.fault.ReadFault.TheVariants.{Unreadable, Text}
 use Rattle.cert_text.specs.declared.answers.CertFault.TheVariants as fault
-use Rattle.cantus_text.specs.declared.head.CantusHead.{CantusHead}
+use Rattle.cantus_check.specs.declared.head.CantusHead.{CantusHead}
 use Rattle.cert_text.specs.Pieces.{GoesTo}
-use Rattle.cantus_text.specs.Heads.{IsHeadText}
+use Rattle.cantus_check.specs.Heads.{IsHeadText}
 use Rattle.cert_file.specs.Subjects.{IsOpened}
 use Rattle.fux_port.specs.Files.{IsMissing}
 

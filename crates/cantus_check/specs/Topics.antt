@@ -17,7 +17,7 @@ use Rattle.cantus_check.specs.Certificates.{Begins, Holds, IsHeadSound, Refutes,
 use Rattle.cantus_check.specs.Claims.{Said}
 use Rattle.cantus_check.specs.Known.{IsJudged, ways_of}
 use Rattle.cantus_check.specs.declared.known.CantusKnown.{CantusKnown}
-use Rattle.cantus_text.specs.Heads.{IsHeadText}
+use Rattle.cantus_check.specs.Heads.{IsHeadText}
 use Rattle.cantus_check.specs.declared.checker.CantusOpen.{CantusOpen}
 use Rattle.cantus_check.specs.declared.checker.CantusOpen.TheVariants as opening
 use Rattle.cert_file.specs.Subjects.{Subject}

@@ -4,7 +4,7 @@ use Rattle.claim_writer.specs.Writing.{claim_lines}
 use Rattle.cantus_space.specs.declared.plan.CantusPlan.{CantusPlan}
 use Rattle.cantus_check.specs.Claims.{Said}
 use Rattle.cantus_check.specs.Writer.{claims_of}
-use Rattle.cantus_text.specs.Heads.{head_text}
+use Rattle.cantus_check.specs.Heads.{head_text}
 
 -- the certificate that is written for a head
 abbrev pub written_certificate : CantusPlan → Said → List ℕ

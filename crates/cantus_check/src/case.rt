@@ -11,9 +11,9 @@ ghost use Rattle.cantus_check.specs.Claims.{IsTrueOf};
 ghost use Rattle.cantus_check.specs.Known.{IsJudged, IsJudgedOfSome, order_with};
 ghost use Rattle.cantus_check.specs.Writer as words;
 
+use crate::head::CantusHead;
 use crate::known::CantusKnown;
 use cantus_space::CantusSpace;
-use cantus_text::CantusHead;
 use cert_text::Claim;
 use cert_tree::ClaimTree;
 use fux_grid::pitch_order;

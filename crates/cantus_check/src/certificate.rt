@@ -11,8 +11,8 @@ ghost use Rattle.fux_port.specs.Written.{appended};
 
 use crate::case::CantusCase;
 use crate::copy::case_of;
+use crate::head::cantus_head_text;
 use cantus_space::CantusSpace;
-use cantus_text::cantus_head_text;
 use cert_text::CertWrite;
 use claim_writer::write_with_claims;
 use fux_pitch::Pitch;

@@ -8,9 +8,9 @@ ghost use Rattle.cantus_check.specs.Topics.{TellsWhy};
 ghost use Rattle.cert_file.specs.Checking.{opened_at};
 
 use crate::case::CantusCase;
+use crate::head::CantusHead;
 use crate::known::CantusKnown;
 use cantus_space::{CantusSpace, lawful_penalty};
-use cantus_text::CantusHead;
 use cert_file::{Checks, refused_by};
 use cert_text::{Accepted, Claim, Refused, Why};
 use cert_tree::{Judging, begin, feed, finish};
@@ -39,7 +39,7 @@ impl Model for CantusChecker {
     ghost use Rattle.std.specs.Prelude.{option_map};
     ghost use Rattle.std.specs.Prelude.{List as Items};
     ghost use Rattle.cantus_space.specs.declared.plan.CantusPlan.{CantusPlan as APlan};
-    ghost use Rattle.cantus_text.specs.Heads.{Said as ASaid};
+    ghost use Rattle.cantus_check.specs.Heads.{Said as ASaid};
     ghost use Rattle.cantus_check.specs.Topics.{IsChecking};
     ghost use Rattle.cert_file.specs.Checking.{Checking, refused_by};
     ghost use Rattle.fux_pitch.specs.declared.pitch.Pitch.{Pitch as APitch};
@@ -143,7 +143,7 @@ impl Checks for CantusChecker {
     ghost use Rattle.std.specs.Prelude.{List as Items};
     ghost use Rattle.cantus_space.specs.declared.plan.CantusPlan.{CantusPlan as APlan};
     ghost use Rattle.cantus_check.specs.Topics.{cantus_subject};
-    ghost use Rattle.cantus_text.specs.Heads.{Said as ASaid};
+    ghost use Rattle.cantus_check.specs.Heads.{Said as ASaid};
     ghost use Rattle.fux_pitch.specs.declared.pitch.Pitch.{Pitch as APitch};
 
     ghost Asked = { APlan };

@@ -5,7 +5,7 @@ ghost use Rattle.cantus_check.specs.Answers.{Answers, unopened, unstarted};
 ghost use Rattle.cantus_check.specs.Topics.{cantus_subject};
 ghost use Rattle.cert_file.specs.Judgments.{AcceptsValid};
 ghost use Rattle.cert_file.specs.Nearness.{IsReadNear};
-ghost use Rattle.cantus_text.specs.Heads.{Said};
+ghost use Rattle.cantus_check.specs.Heads.{Said};
 ghost use Rattle.fux_port.specs.Counts.{Rose};
 ghost use Rattle.fux_port.specs.Files.{IsMissing};
 ghost use Rattle.fux_port.specs.Promises.{ServesWhole};

@@ -4,8 +4,8 @@ ghost use Rattle.std.specs.Prelude.{◌≡◌, IfOk};
 ghost use Rattle.cantus_check.specs.WrittenHeads.{said_with};
 
 use crate::case::CantusCase;
+use crate::head::CantusHead;
 use cantus_space::CantusSpace;
-use cantus_text::CantusHead;
 use fux_pitch::{List, Memory, Pitch};
 use std::alloc::Global;
 

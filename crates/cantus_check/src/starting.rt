@@ -7,7 +7,7 @@ ghost use Rattle.fux_port.specs.Promises.{Keeps, ServesWhole};
 ghost use Rattle.cert_file.specs.Readings.{longest_piece};
 ghost use Rattle.cantus_check.specs.Starts.{IsUnread, Starts};
 
-use cantus_text::{CantusHead, cantus_head};
+use crate::head::{CantusHead, cantus_head};
 use cert_file::{LONGEST_PIECE, ReadFault, Reader, fill};
 use cert_text::CertFault;
 use fux_port::Shelf;

@@ -10,7 +10,7 @@ use Rattle.cantus_check.specs.Claims.{Said}
 use Rattle.cantus_space.specs.declared.prices.CantusPrices.{CantusPrices}
 use Rattle.cantus_space.specs.declared.prices.PricedSheet.{PricedSheet}
 use Rattle.cantus_space.specs.declared.plan.CantusPlan.{CantusPlan}
-use Rattle.cantus_text.proofs.HeadRows.{heads-alone}
+use Rattle.cantus_check.proofs.HeadRows.{heads-alone}
 use Rattle.cert_file.specs.declared.verdict.Verdict.{Verdict as CertVerdict}
 use Rattle.cert_file.specs.declared.verdict.Verdict.TheVariants.{Accepted, Claim, Text}
 use Rattle.cert_file.proofs.TextLemmas.{such_of}

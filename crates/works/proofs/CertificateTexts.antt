@@ -9,8 +9,8 @@ use Rattle.cantus_check.specs.Claims.{Said}
 use Rattle.cantus_check.specs.Writer as of_cantus
 use Rattle.cantus_space.specs.Lawful.{IsLawful as IsLawfulCantus}
 use Rattle.cantus_space.specs.declared.plan.CantusPlan.{CantusPlan}
-use Rattle.cantus_text.specs.Heads as cantus
-use Rattle.cantus_text.specs.Heads.{IsSaid}
+use Rattle.cantus_check.specs.Heads as cantus
+use Rattle.cantus_check.specs.Heads.{IsSaid}
 use Rattle.cantus_check.proofs.Fits as cantus_fits
 use Rattle.cert_check.specs.Settings.{AreStated, Lists, Numbers, form_of, ground_text}
 use Rattle.cert_law.specs.Entries.{AreTrueEntries}

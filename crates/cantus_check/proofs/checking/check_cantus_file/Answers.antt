@@ -6,7 +6,7 @@ use Rattle.cantus_check.specs.Answers.{Answers}
 use Rattle.cantus_check.specs.Topics.{cantus_subject}
 use Rattle.cantus_check.specs.Claims.{Said}
 use Rattle.cantus_space.specs.declared.plan.CantusPlan.{CantusPlan}
-use Rattle.cantus_text.specs.Heads.{IsHeadText}
+use Rattle.cantus_check.specs.Heads.{IsHeadText}
 use Rattle.cert_file.specs.Checking.{Checking, opened_at}
 use Rattle.cert_file.specs.Judgments.{Finds, Shows}
 use Rattle.cert_file.specs.Nearness.{ReadsNear}

@@ -1,4 +1,4 @@
-use Rattle.cantus_text.proofs.HeadRows.{heads-alone}
+use Rattle.cantus_check.proofs.HeadRows.{heads-alone}
 use Rattle.cert_file.proofs.OneVerdict.{one_verdict}
 use Rattle.cantus_check.specs.Topics.{cantus_subject}
 use Rattle.cantus_check.proofs.RefusedLemmas.{cantus_once}

@@ -3,7 +3,7 @@ use Rattle.std.proofs.lemmas.List.{length-take-le}
 use Rattle.fux_port.specs.Counts.{Rose}
 use Rattle.cert_text.specs.declared.answers.CertFault.TheVariants.{CertHead, Memory}
 use Rattle.cert_text.specs.Pieces.{GoesTo, Stands}
-use Rattle.cantus_text.specs.Heads.{IsHeadText}
+use Rattle.cantus_check.specs.Heads.{IsHeadText}
 use Rattle.cert_file.specs.Readings.{Reading, longest_piece}
 use Rattle.cert_file.specs.Subjects.{IsOpened}
 use Rattle.cert_file.proofs.FileLemmas.{first_known, front_left, front_written}

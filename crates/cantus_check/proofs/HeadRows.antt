@@ -11,10 +11,10 @@ use Rattle.cert_text.specs.HeadRows.{IsKind, NumberLine}
 use Rattle.cert_text.specs.Pieces.{Fixed, GoesTo, Literal, OneByte, Reads, Stops, Then}
 use Rattle.cert_text.proofs.NumberLemmas.{numbers-plain}
 use Rattle.cert_text.proofs.PieceLemmas.{Alone, Plain, byte-plain, fixed-plain, then-plain}
-use Rattle.cantus_text.specs.Heads.{IsHeadText, IsSaid, Said, closing_text, head_text, opening_text}
-use Rattle.cantus_text.specs.Rows.{BestRow, CantusRow, HeadRow, KindRow, KindsRow, Names, NothingRow, none_rest}
+use Rattle.cantus_check.specs.Heads.{IsHeadText, IsSaid, Said, closing_text, head_text, opening_text}
+use Rattle.cantus_check.specs.Rows.{BestRow, CantusRow, HeadRow, KindRow, KindsRow, Names, NothingRow, none_rest}
 use Rattle.cert_text.proofs.Fronts.{few-left, goes-to}
-use Rattle.cantus_text.proofs.NameRows.{names-alone, names-live, names-of, names-say, names_text, names_text-more}
+use Rattle.cantus_check.proofs.NameRows.{names-alone, names-live, names-of, names-say, names_text, names_text-more}
 
 abbrev NUMBER : List ℕ
 NUMBER = codes "est "

@@ -3,7 +3,7 @@ use Rattle.std.specs.Prelude.{◌≡◌, ℕ, zero, suc, ◌-◌, ◌==◌, Bool
 use Rattle.fux_pitch.specs.declared.pitch.Pitch.{Pitch}
 use Rattle.cert_text.specs.HeadRows.{IsKind, NumberLine, PitchName}
 use Rattle.cert_text.specs.Pieces.{Fixed, Literal, OneByte, Reads, Then}
-use Rattle.cantus_text.specs.Heads.{Said, closing_text, opening_text}
+use Rattle.cantus_check.specs.Heads.{Said, closing_text, opening_text}
 
 -- ---- pitches
 

@@ -2,9 +2,9 @@ use Rattle.std.proofs.Common.{◌-◌, ◌∷◌, [], ◌++◌, append-nil, appe
 use Rattle.std.proofs.lemmas.Result.{err_from_is_err_and}
 use Rattle.cert_text.specs.Pieces.{Reads, Stops}
 use Rattle.cert_text.proofs.PieceLemmas.{IfErr-map, IfOk-map}
-use Rattle.cantus_text.specs.Rows.{Between, Names}
-use Rattle.cantus_text.proofs.NameRows.{more-stops, name-stops, names-end, names-first, names-more, one_more}
-use Rattle.cantus_text.proofs.scan.+names.Goals as goal
+use Rattle.cantus_check.specs.Rows.{Between, Names}
+use Rattle.cantus_check.proofs.NameRows.{more-stops, name-stops, names-end, names-first, names-more, one_more}
+use Rattle.cantus_check.proofs.scan.+names.Goals as goal
 
 pub returns-in_err-goes-clause-err : goal.returns-in_err-goes-clause-err
 returns-in_err-goes-clause-err t c =

@@ -4,7 +4,7 @@
 
 ghost use Rattle.std.specs.Prelude.{◌≡◌, ◌+◌, ◌≤◌, [], IfErr, IfOk, length, vec_capacity};
 ghost use Rattle.cert_text.specs.Pieces.{Reads, Stops};
-ghost use Rattle.cantus_text.specs.Rows.{Between, BestRow, HeadRow, KindsRow, Names, ReadsBest, ReadsNames, said_of};
+ghost use Rattle.cantus_check.specs.Rows.{Between, BestRow, HeadRow, KindsRow, Names, ReadsBest, ReadsNames, said_of};
 
 use cert_text::{fixed, next, number_line, pitch};
 use fux_pitch::Pitch;

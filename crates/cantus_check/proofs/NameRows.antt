@@ -10,7 +10,7 @@ use Rattle.cert_text.specs.Pieces.{Fixed, Reads, Stops, Then}
 use Rattle.cert_text.proofs.FourthOctave.{natural-four}
 use Rattle.cert_text.proofs.NameLemmas.{pitches-alone}
 use Rattle.cert_text.proofs.PieceLemmas.{Alone, Live, fixed-alone, reads-then, stops-behind, stops-first, then-alone, then-live}
-use Rattle.cantus_text.specs.Rows.{Between, Goes, Named, Names}
+use Rattle.cantus_check.specs.Rows.{Between, Goes, Named, Names}
 
 first_byte : (b c : ℕ) (r s : List ℕ) → b ∷ r ≡ c ∷ s → b ≡ c
 first_byte b c r s e = cc

@@ -3,11 +3,11 @@ use Rattle.std.proofs.lemmas.Result.{err_from_is_err_and}
 use Rattle.cert_text.proofs.HeadStops.{fixed-reads, fixed-stops}
 use Rattle.cert_text.proofs.NumberLemmas.{numbers-alone}
 use Rattle.cert_text.proofs.PieceLemmas.{fixed-alone, reads-then, stops-behind, stops-first}
-use Rattle.cantus_text.specs.Heads.{closing_text}
-use Rattle.cantus_text.specs.Rows.{ReadsBest}
-use Rattle.cantus_text.proofs.HeadRows.{cantus-plain, names_row-plain, number-plain}
-use Rattle.cantus_text.proofs.NameRows.{names-alone}
-use Rattle.cantus_text.proofs.scan.best.Goals as goal
+use Rattle.cantus_check.specs.Heads.{closing_text}
+use Rattle.cantus_check.specs.Rows.{ReadsBest}
+use Rattle.cantus_check.proofs.HeadRows.{cantus-plain, names_row-plain, number-plain}
+use Rattle.cantus_check.proofs.NameRows.{names-alone}
+use Rattle.cantus_check.proofs.scan.best.Goals as goal
 
 pub returns-in_err-digits-clause-err : goal.returns-in_err-digits-clause-err
 returns-in_err-digits-clause-err c =

@@ -1,10 +1,10 @@
 use Rattle.std.proofs.Common.{◌-◌, inr, length, refl, subst, sym}
 use Rattle.cert_text.specs.Pieces.{Stands}
-use Rattle.cantus_text.specs.Heads.{IsHeadText, Said}
-use Rattle.cantus_text.specs.Rows.{said_of}
+use Rattle.cantus_check.specs.Heads.{IsHeadText, Said}
+use Rattle.cantus_check.specs.Rows.{said_of}
 use Rattle.cert_text.proofs.Fronts.{reads-stand, stands-one}
-use Rattle.cantus_text.proofs.HeadRows.{head-goes_to, head-reads, heads-alone}
-use Rattle.cantus_text.proofs.head.cantus_head.Goals as goal
+use Rattle.cantus_check.proofs.HeadRows.{head-goes_to, head-reads, heads-alone}
+use Rattle.cantus_check.proofs.head.cantus_head.Goals as goal
 
 pub returns-in-Ok-scan_head-clause-ok : goal.returns-in-Ok-scan_head-clause-ok
 returns-in-Ok-scan_head-clause-ok c =

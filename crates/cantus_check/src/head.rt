@@ -1,10 +1,10 @@
 //! The head of a cantus certificate, and its text.
 
 ghost use Rattle.std.specs.Prelude.{◌≡◌, ℕ, IfErr, IfOk, string_bytes};
-ghost use Rattle.cantus_text.specs.Heads as words;
+ghost use Rattle.cantus_check.specs.Heads as words;
 ghost use Rattle.cert_text.specs.Pieces.{Stands};
-ghost use Rattle.cantus_text.specs.Heads.{IsHeadFault, IsHeadText, Said, UnlessMemory};
-ghost use Rattle.cantus_text.specs.Rows.{said_of};
+ghost use Rattle.cantus_check.specs.Heads.{IsHeadFault, IsHeadText, Said, UnlessMemory};
+ghost use Rattle.cantus_check.specs.Rows.{said_of};
 
 use crate::line::cantus_line;
 use crate::scan::{MOST_PITCHES, scan_head};

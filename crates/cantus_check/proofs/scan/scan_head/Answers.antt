@@ -1,7 +1,7 @@
 use Rattle.std.proofs.lemmas.Result.{err_from_is_err_and}
 use Rattle.cert_text.proofs.PieceLemmas.{IfErr-map, IfOk-map, fixed-alone, reads-then, stops-behind, stops-first}
-use Rattle.cantus_text.proofs.HeadRows.{kinds-plain}
-use Rattle.cantus_text.proofs.scan.scan_head.Goals as goal
+use Rattle.cantus_check.proofs.HeadRows.{kinds-plain}
+use Rattle.cantus_check.proofs.scan.scan_head.Goals as goal
 
 pub returns-in_err-second-clause-err : goal.returns-in_err-second-clause-err
 returns-in_err-second-clause-err c =

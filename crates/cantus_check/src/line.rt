@@ -1,7 +1,7 @@
 //! The line of a cantus.
 
 ghost use Rattle.std.specs.Prelude.{◌≡◌, IfOk, string_bytes};
-ghost use Rattle.cantus_text.specs.Heads as words;
+ghost use Rattle.cantus_check.specs.Heads as words;
 
 use fux_pitch::{Memory, Pitch};
 use fux_text::put_pitches;

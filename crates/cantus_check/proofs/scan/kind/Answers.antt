@@ -4,8 +4,8 @@ use Rattle.std.proofs.lemmas.Result.{err_from_is_err_and}
 use Rattle.cert_text.specs.HeadRows.{IsKind}
 use Rattle.cert_text.proofs.HeadStops.{fixed-reads, fixed-stops}
 use Rattle.cert_text.proofs.PieceLemmas.{byte-alone, byte-stops, byte-stops_at_end, reads-then, stops-behind, stops-first}
-use Rattle.cantus_text.proofs.HeadRows.{kind-plain}
-use Rattle.cantus_text.proofs.scan.kind.Goals as goal
+use Rattle.cantus_check.proofs.HeadRows.{kind-plain}
+use Rattle.cantus_check.proofs.scan.kind.Goals as goal
 
 pub returns-in_default-clause-err : goal.returns-in_default-clause-err
 returns-in_default-clause-err c =

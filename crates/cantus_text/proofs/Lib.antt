@@ -1,2 +1,0 @@
-pub mod HeadRows
-pub mod NameRows
