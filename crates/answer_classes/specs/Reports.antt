@@ -6,7 +6,7 @@ use Rattle.class_marker.specs.Unmarked.{unmarked_text}
 use Rattle.answer_classes.specs.declared.report.WholeReport.{WholeReport}
 use Rattle.answer_classes.specs.declared.said.Said.{Said}
 use Rattle.answer_classes.specs.declared.said.Said.TheVariants.{Told, Refused, Unjoined, Unread}
-use Rattle.smf_answers.specs.FaultTexts.{fault_text}
+use Rattle.smf_score.specs.JoinFaultTexts.{fault_text}
 
 -- a name with what is said of its file
 abbrev pub Saying : Type 0

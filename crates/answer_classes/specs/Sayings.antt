@@ -12,8 +12,8 @@ use Rattle.class_marker.specs.declared.answer.AnswerLines.{AnswerLines}
 use Rattle.class_marker.specs.Answers.{TellsAnswer}
 use Rattle.answer_classes.specs.declared.said.Said.{Said}
 use Rattle.answer_classes.specs.declared.said.Said.TheVariants.{Told, Refused, Unjoined, Unread}
-use Rattle.smf_answers.specs.declared.manner.Manner.{Manner}
-use Rattle.smf_answers.specs.Reading.{IsJoined}
+use Rattle.smf_score.specs.declared.manner.Manner.{Manner}
+use Rattle.smf_score.specs.Joining.{IsJoined}
 
 -- ---- by itself
 

@@ -9,9 +9,8 @@ use crate::said::Said;
 use class_marker::{AnswerLines, Text, answer_lines};
 use fux_grid::{Exercise, Score};
 use fux_pitch::Memory;
-use smf_answers::{JoinFault, Manner, join_smf};
 use smf_bytes::ByteFault;
-use smf_score::SmfFault;
+use smf_score::{JoinFault, Manner, SmfFault, join_smf};
 use std::alloc::Global;
 
 /// What is said of a MIDI file of more than 1,048,576 bytes.

@@ -1,14 +1,14 @@
 //! The report of a class in which each name has its place.
 
 ghost use Rattle.std.specs.Prelude.{◌≡◌, ◌<◌, ◌^◌, ◌++◌, ◌∷◌, [], IfOk, List, OnOk, codes, if◌then◌else◌, length, string_bytes};
-ghost use Rattle.smf_answers.specs.FaultTexts.{fault_text};
+ghost use Rattle.smf_score.specs.JoinFaultTexts.{fault_text};
 ghost use Rattle.answer_classes.specs.Reports as words;
 ghost use Rattle.answer_classes.specs.Reports.{IsReportOf, IsWholeOf, Saying, counts_text, line_end, said_text, whole_line};
 
 use crate::said::Said;
 use class_marker::put_unmarked;
 use fux_pitch::Memory;
-use smf_answers::JoinFault;
+use smf_score::JoinFault;
 use std::alloc::Global;
 use std::fmt::Write;
 

@@ -9,7 +9,7 @@ use class_marker::{AnswerLines, Marking, Text, Unmarked, answer_lines, mark_text
 use fux_grid::Exercise;
 use fux_pitch::Memory;
 use fux_text::{TextFault, TextKind, read};
-use smf_answers::JoinFault;
+use smf_score::JoinFault;
 use std::alloc::Global;
 
 /// What is said of a file of a class.

@@ -10,7 +10,7 @@ use Rattle.fux_grid.specs.declared.exercise.Head.{Head}
 use Rattle.fux_grid.specs.Namings.{AreNamed}
 use Rattle.fux_pitch.specs.Pitch.{key_of}
 use Rattle.fux_text.specs.Names.{mode_named, pitch_named}
-use Rattle.smf_answers.specs.declared.manner.Manner.{Manner}
+use Rattle.smf_score.specs.declared.manner.Manner.{Manner}
 use Rattle.smf_score.specs.Heads.{IsHead}
 use Rattle.text_lines.specs.Numbers.{number_within}
 use Rattle.command_words.specs.declared.command.Command.{Command}

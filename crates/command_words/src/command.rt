@@ -12,7 +12,7 @@ use clap::ArgMatches;
 use clap::error::ErrorKind;
 use fux_grid::Head;
 use fux_pitch::{Memory, Mode, Pitch};
-use smf_answers::Manner;
+use smf_score::Manner;
 use std::alloc::Global;
 
 /// What is to be made of an exercise.

@@ -15,7 +15,7 @@ use clap::ArgMatches;
 use fux_grid::Head;
 use fux_pitch::{Mode, semitone};
 use fux_text::parse_pitch;
-use smf_answers::Manner;
+use smf_score::Manner;
 use text_lines::{is_same, parse_number};
 
 const USUAL_BUDGET: u32 = 1_000_000;

@@ -11,3 +11,8 @@ pub mod PlayedLemmas
 pub mod ReadingLemmas
 pub mod RoundTrip
 pub mod ValidLemmas
+pub mod FaultLemmas
+pub mod JoinedLemmas
+pub mod OrdersLemmas
+pub mod JoiningLemmas
+pub mod JoinRoundTrip

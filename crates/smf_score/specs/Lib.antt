@@ -13,3 +13,14 @@ pub mod Reading
 pub mod Sounding
 pub mod Strokes
 pub mod Written
+pub mod LessonCantus
+pub mod JoinFaultTexts
+pub mod JoinFaults
+pub mod Joined
+pub mod Legato
+pub mod Meters
+pub mod Orders
+pub mod JoinBack
+pub mod Joining
+pub mod Staves
+pub mod Tracks

@@ -6,7 +6,7 @@ use Rattle.class_marker.specs.declared.one.Text.{Text as Content}
 use Rattle.class_marker.specs.declared.one.Text.TheVariants.{Bytes, TooLong}
 use Rattle.fux_grid.specs.declared.exercise.Exercise.{Exercise}
 use Rattle.command_words.specs.Commands.{join_smf}
-use Rattle.smf_answers.specs.declared.manner.Manner.{Manner}
+use Rattle.smf_score.specs.declared.manner.Manner.{Manner}
 use Rattle.works.specs.declared.work.Output.{Output}
 use Rattle.works.specs.declared.work.Stop.{Stop}
 use Rattle.works.specs.declared.work.Stop.TheVariants as stop

@@ -7,7 +7,7 @@ use Rattle.works.specs.declared.complaint.FileName.TheVariants.{Given, Listed}
 use Rattle.works.specs.declared.refusal.Refusal.{Refusal}
 use Rattle.works.specs.declared.refusal.Refusal.TheVariants.{Text, NoSetting, Lesson as NoLesson, With, List as NoList, Canon as NoCanon, TooWide, LongCertificate, LargeGraph, Sheet, Midi, Join}
 use Rattle.penalty_sheet.specs.Sheets as sheets
-use Rattle.smf_answers.specs.FaultTexts as joined
+use Rattle.smf_score.specs.JoinFaultTexts as joined
 use Rattle.smf_score.specs.FaultTexts as midi
 use Rattle.class_marker.specs.declared.unmarked.Unmarked.TheVariants as unmarked
 use Rattle.class_marker.specs.Unmarked.{unmarked_text}

@@ -3,8 +3,8 @@ use Rattle.std.specs.Prelude.{◌≡◌, ℕ, List, Some, Ok, Err}
 use Rattle.fux_grid.specs.declared.exercise.Exercise.{Exercise}
 use Rattle.fux_grid.specs.Grid.{Grid}
 use Rattle.fux_text.specs.Lines.{note_text}
-use Rattle.smf_answers.specs.declared.manner.Manner.{Manner}
-use Rattle.smf_answers.specs.Reading.{IsJoined}
+use Rattle.smf_score.specs.declared.manner.Manner.{Manner}
+use Rattle.smf_score.specs.Joining.{IsJoined}
 use Rattle.works.specs.declared.refusal.Refusal.{Refusal}
 use Rattle.works.specs.declared.refusal.Refusal.TheVariants.{Join}
 use Rattle.works.specs.declared.work.Output.{Output}

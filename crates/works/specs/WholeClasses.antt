@@ -12,7 +12,7 @@ use Rattle.command_words.specs.declared.command.FileKind.{FileKind}
 use Rattle.command_words.specs.declared.command.FileKind.TheVariants as read_as
 use Rattle.fux_grid.specs.declared.exercise.Exercise.{Exercise}
 use Rattle.fux_port.specs.Files.{IsMissing, MayHave}
-use Rattle.smf_answers.specs.declared.manner.Manner.{Manner}
+use Rattle.smf_score.specs.declared.manner.Manner.{Manner}
 use Rattle.works.specs.declared.refusal.Refusal.{Refusal}
 use Rattle.works.specs.declared.refusal.Refusal.TheVariants as refusal
 use Rattle.works.specs.declared.work.Output.{Output}

@@ -8,8 +8,7 @@ use fux_grid::Place;
 use fux_pitch::{Label, Memory};
 use fux_text::TextKind;
 use penalty_sheet::SheetFault;
-use smf_answers::JoinFault;
-use smf_score::SmfFault;
+use smf_score::{JoinFault, SmfFault};
 use std::alloc::Global;
 use std::fmt::Write;
 

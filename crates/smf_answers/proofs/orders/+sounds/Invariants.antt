@@ -1,5 +1,0 @@
-use Rattle.std.proofs.Common.{length}
-use Rattle.smf_answers.proofs.orders.+sounds.Given as goal
-
-abbrev pub decreases-sounds : goal.decreases-sounds
-decreases-sounds l = length l.cantus.now
