@@ -6,7 +6,7 @@ use Rattle.std.proofs.lemmas.List.{take_all}
 use Rattle.rule_law.specs.Voices.{has_rule}
 use Rattle.fux_judge.specs.Rules.{late_rules}
 use Rattle.fux_judge.specs.Steps.{breaks_late}
-use Rattle.fux_judge.proofs.LateLemmas.{none_idle}
+use Rattle.fux_judge.proofs.LateLemmas.{none_idle, placeless_settle}
 use Rattle.fux_judge.proofs.late.with_late.Goals as goal
 
 or_right : (a b c : Bool) → ((a || b) || c) ≡ (a || (b || c))
@@ -29,7 +29,9 @@ none_more b test r rules h = same b ∙ ap (λ a. b || a) (sym (none rules h))
         ap (λ a. (a && r == x) || list_any (λ rule. test rule && r == rule) xs) parts.0 ∙ none xs parts.1
 
 pub settles_late_break-requires-clause-idle : goal.settles_late_break-requires-clause-idle
-settles_late_break-requires-clause-idle c = none_idle c.args.ex.now (c.args.next.now.newest.len - 1)
+settles_late_break-requires-clause-idle c =
+    let before = c.args.next.now.newest.len - 1 in
+    placeless_settle c.args.ex.now before 0 (none_idle c.args.ex.now before)
 
 pub returns-then-not-settles_late_break : goal.returns-then-not-settles_late_break
 returns-then-not-settles_late_break c = λ p col come r.
