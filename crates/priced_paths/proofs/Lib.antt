@@ -1,6 +1,6 @@
 pub mod TollSteps
 pub mod Spots
-pub mod Sums
+pub mod PricedSums
 pub mod Pushes
 pub mod Mapped
 pub mod Once

@@ -1,7 +1,7 @@
 use Rattle.std.proofs.Common.{◌++◌, ◌∷◌, [], sym, ◌∙◌, arith}
 use Rattle.priced_paths.specs.CaseGraphs.{case_of}
 use Rattle.priced_paths.proofs.Spots.{spot-append_none}
-use Rattle.priced_paths.proofs.Sums.{place_on, priced_sum-at, priced_sum-none}
+use Rattle.priced_paths.proofs.PricedSums.{place_on, priced_sum-at, priced_sum-none}
 use Rattle.priced_paths.proofs.guide.PricedGuideGuide.follow.Goals as goal
 
 pub edge-requires : goal.edge-requires

@@ -1,6 +1,6 @@
 use Rattle.std.proofs.Common.{[], sym, ◌∙◌, arith}
 use Rattle.priced_paths.specs.CaseGraphs.{case_of}
-use Rattle.priced_paths.proofs.Sums.{place_begins, priced_sum-at}
+use Rattle.priced_paths.proofs.PricedSums.{place_begins, priced_sum-at}
 use Rattle.priced_paths.proofs.guide.PricedGuideGuide.start.Goals as goal
 
 pub returns-in_err-sum : goal.returns-in_err-sum

@@ -3,7 +3,7 @@ use Rattle.priced_paths.specs.declared.guide.Place.{Place}
 use Rattle.priced_paths.specs.CaseGraphs.{Case, case_of}
 use Rattle.priced_paths.specs.Webs.{edge_in, spot_at}
 use Rattle.priced_paths.proofs.Spots.{end_of, spot-append_none, spot_from-append}
-use Rattle.priced_paths.proofs.Sums.{place_on}
+use Rattle.priced_paths.proofs.PricedSums.{place_on}
 use Rattle.priced_paths.specs.Stands.{StandsAt}
 use Rattle.priced_paths.proofs.sums.PathSums.follow.Goals as goal
 

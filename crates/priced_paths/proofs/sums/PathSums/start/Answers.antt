@@ -1,6 +1,6 @@
 use Rattle.std.proofs.Common.{arith}
 use Rattle.priced_paths.specs.CaseGraphs.{case_of}
-use Rattle.priced_paths.proofs.Sums.{place_begins}
+use Rattle.priced_paths.proofs.PricedSums.{place_begins}
 use Rattle.priced_paths.proofs.sums.PathSums.start.Goals as goal
 
 pub returns : goal.returns
