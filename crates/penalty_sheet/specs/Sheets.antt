@@ -1,6 +1,6 @@
 -- What a text says of the weights: a sheet, or what is wrong with it. A document is what the crate
 -- `toml` says one is.
-use Rattle.std.specs.Prelude.{◌≡◌, ℕ, ◌+◌, ◌-◌, ◌==◌, Bool, true, ◌&&◌, ◌||◌, length, List, [], ◌∷◌, ◌++◌, ℤ, pos, negsuc, nat_le, nat_lt, if◌then◌else◌, map, codes, slice_index, slice_index_or, Option, Some, None, Result, Ok, Err}
+use Rattle.std.specs.Prelude.{◌≡◌, ℕ, ◌+◌, ◌-◌, ◌≤◌, ◌==◌, Bool, true, ◌&&◌, ◌||◌, length, List, [], ◌∷◌, ◌++◌, ℤ, pos, negsuc, nat_le, nat_lt, if◌then◌else◌, map, codes, slice_index, slice_index_or, Option, Some, None, Result, Ok, Err}
 use Rattle.std.specs.Option.{option_and_then}
 use Rattle.std.specs.Fmt.{signed_decimal}
 use Rattle.std.specs.List.{list_any, range_with_len}
@@ -159,6 +159,15 @@ pub record AreTablesInOrder (top : Members) : Type 0 where
   pub weights : IsRight (more_said (get_member (codes "more") top))
       → weights_ascend (get_member (codes "weights") top) ≡ true
 
+-- the keys of a document stand in the order of their bytes, and so do those of its tables
+pub record IsInOrder (top : Members) : Type 0 where
+  pub keys : keys_ascend top ≡ true
+  pub tables : first_fault top_fault top ≡ None → AreTablesInOrder top
+
+-- the document that bytes are, where they aren't too many for a sheet, stands in order
+abbrev pub AreInOrder : List ℕ → Type 0
+AreInOrder bytes = (top : Members) → document_of bytes ≡ Some top → length bytes ≤ 65536 → IsInOrder top
+
 -- what is said by a document, if there is one
 abbrev pub said_by : Option Members → Result Sheet SheetFault
 said_by None = Err NotToml
@@ -167,6 +176,14 @@ said_by (Some top) = document_said top
 -- the sheet that bytes are, or what is wrong with them first
 unfoldable pub sheet_of : List ℕ → Result Sheet SheetFault
 sheet_of bytes = if nat_lt 65536 (length bytes) then Err TooLong else said_by (document_of bytes)
+
+-- bytes are a sheet
+abbrev pub IsSheetOf : List ℕ → Sheet → Type 0
+IsSheetOf bytes sheet = sheet_of bytes ≡ Ok sheet
+
+-- this is wrong with bytes
+abbrev pub HasSheetFault : List ℕ → SheetFault → Type 0
+HasSheetFault bytes fault = sheet_of bytes ≡ Err fault
 
 -- ---- how it is told
 

@@ -4,7 +4,7 @@ ghost use Rattle.std.specs.Prelude.{◌≡◌, true, ◌≢◌, ◌≤◌, ◌�
 ghost use Rattle.std.specs.Option.{option_and_then};
 ghost use Rattle.toml.specs.Data.{as_integer, get_member};
 ghost use Rattle.toml.specs.View.{view, table_view};
-ghost use Rattle.penalty_sheet.specs.Sheets.{entry_fault, first_fault, is_toll_key, keys_ascend, more_fault, more_in, number_fault, sheet_in, toll_key, weight_in};
+ghost use Rattle.penalty_sheet.specs.Sheets.{entry_fault, first_fault, is_toll_key, keys_ascend, more_fault, more_in, number_fault, sheet_in, toll_key, top_fault, weight_in};
 
 use crate::fault::SheetFault;
 use crate::sheet::{GREATEST_TOLL, Sheet, default_sheet};
@@ -132,6 +132,22 @@ pub fn check_more(alloc: Global, table: &Table) -> Result<(), SheetFault>
 {
     for (key, value) in table.iter() {
         check_further(alloc, key.as_str(), value)?;
+    }
+    Ok(())
+}
+
+/// Refuses a document for its first key that is neither `more` nor `weights`.
+pub fn check_keys(alloc: Global, document: &Table) -> Result<(), SheetFault>
+    ensures ok { OnOk result (first_fault top_fault (table_view document.now) ≡ None) }
+    ensures ordered { keys_ascend (table_view document.now) ≡ true }
+    ensures fault { IfErr result (λ fault. fault ≢ SheetFault.Memory →
+        first_fault top_fault (table_view document.now) ≡ Some fault) }
+{
+    for (key, _value) in document.iter() {
+        if key.as_str() != "more" && key.as_str() != "weights" {
+            let key = label(alloc, key.as_str())?;
+            return Err(SheetFault::UnknownKey { key });
+        }
     }
     Ok(())
 }

@@ -11,5 +11,5 @@ mod sheet;
 pub use entries::{label, number_at};
 pub use fault::SheetFault;
 pub use price::{Price, price_at};
-pub use reading::{document, tables_sheet};
+pub use reading::{document, read_sheet, tables_sheet};
 pub use sheet::{GREATEST_TOLL, Sheet, default_sheet, toll_if, weight};

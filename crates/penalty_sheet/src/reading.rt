@@ -3,13 +3,16 @@
 ghost use Rattle.std.specs.Prelude.{◌≡◌, ◌≢◌, true, IfErr, IfOk, None, Some, Err, Ok, codes, option_map};
 ghost use Rattle.toml.specs.Data.{get_member};
 ghost use Rattle.toml.specs.View.{table_view, view};
-ghost use Rattle.penalty_sheet.specs.Sheets.{AreTablesInOrder, document_of, more_said, tables_said, weights_ascend, weights_said};
+ghost use Rattle.penalty_sheet.specs.Sheets.{AreInOrder, AreTablesInOrder, document_of, document_said, HasSheetFault, IsInOrder, IsSheetOf, more_said, tables_said, weights_ascend, weights_said};
 
-use crate::entries::{check_more, check_weights, label, more_in, sheet_in};
+use crate::entries::{check_keys, check_more, check_weights, label, more_in, sheet_in};
 use crate::fault::SheetFault;
 use crate::sheet::{Sheet, sheet_with};
 use std::alloc::Global;
 use toml::{Table, Value};
+
+/// The most bytes that a sheet may have.
+const MOST_BYTES: usize = 65_536;
 
 /// The sheet that the value of `weights` is, with the weight of Q21.
 fn weights_sheet(alloc: Global, value: &Value, more: u16) -> Result<Sheet, SheetFault>
@@ -87,9 +90,7 @@ fn document_weights(alloc: Global, document: &Table, more: u16) -> Result<Sheet,
     }
 }
 
-/// The sheet that the tables of a document are: `weights`, with whole numbers from 0 to 10,000 for
-/// some of `Q1` to `Q20`, and `more`, with such a number for `Q21`. A toll that is left out has the
-/// weight that it has in the default sheet.
+/// The sheet that the tables of a document are.
 pub fn tables_sheet(alloc: Global, document: &Table) -> Result<Sheet, SheetFault>
     ensures ok { IfOk result (λ sheet. tables_said (table_view document.now) ≡ Ok sheet) }
     ensures fault { IfErr result (λ fault. fault ≢ SheetFault.Memory →
@@ -99,6 +100,17 @@ pub fn tables_sheet(alloc: Global, document: &Table) -> Result<Sheet, SheetFault
 {
     let more = document_more(alloc, document)?;
     document_weights(alloc, document, more)
+}
+
+/// The sheet that a document is.
+fn document_sheet(alloc: Global, document: &Table) -> Result<Sheet, SheetFault>
+    ensures ok { IfOk result (λ sheet. document_said (table_view document.now) ≡ Ok sheet) }
+    ensures fault { IfErr result (λ fault. fault ≢ SheetFault.Memory →
+        document_said (table_view document.now) ≡ Err fault) }
+    ensures ordered { result ≢ Err SheetFault.Memory → IsInOrder (table_view document.now) }
+{
+    check_keys(alloc, document)?;
+    tables_sheet(alloc, document)
 }
 
 /// The document that bytes are.
@@ -116,4 +128,24 @@ pub fn document(alloc: Global, bytes: &[u8]) -> Result<Table, SheetFault>
         Err(error) if error.is_memory() => Err(SheetFault::Memory),
         Err(_) => Err(SheetFault::NotToml),
     }
+}
+
+/// Reads a sheet: a TOML document of at most 65,536 bytes whose keys are among `weights`, a table
+/// with whole numbers from 0 to 10,000 for some of `Q1` to `Q20`, and `more`, a table with such a
+/// number for `Q21`. A toll that is left out has the weight that it has in the default sheet.
+pub fn read_sheet(alloc: Global, bytes: &[u8]) -> Result<Sheet, SheetFault>
+    ensures ok { IfOk result (IsSheetOf bytes.now) }
+    ensures fault { IfErr result (λ fault. fault ≢ SheetFault.Memory → HasSheetFault bytes.now
+        fault) }
+    // A sheet is refused for want of memory only.
+    ensures only { (sheet : Sheet) → IsSheetOf bytes.now sheet →
+        IfErr result (λ fault. fault ≡ SheetFault.Memory) }
+    // The first entry at fault is the first in the order of the keys' bytes.
+    ensures by_bytes { result ≢ Err SheetFault.Memory → AreInOrder bytes.now }
+{
+    if bytes.len() > MOST_BYTES {
+        return Err(SheetFault::TooLong);
+    }
+    let document = document(alloc, bytes)?;
+    document_sheet(alloc, &document)
 }
