@@ -192,3 +192,27 @@ pub fn spend_depth<S: Space>(alloc: Global, space: &S, budget: u32) -> Result<Sp
         }),
     }
 }
+
+/// The first leaf of least value, if a budget is enough for the nodes that have to be opened, as
+/// `spend_depth` has it.
+pub fn search_depth<S: Space>(alloc: Global, space: &S, budget: u32) -> Result<Outcome, Memory>
+    ensures found { IfOk result (λ outcome. IfFound outcome (IsFirstLeast (S.live space.now)
+        (S.height space.now))) }
+    ensures nothing { IfOk result
+        (λ outcome. OnNothing outcome (HasNoLeaf (S.live space.now) (S.height space.now))) }
+    ensures spent { IfOk result (λ outcome. IfSpent outcome (λ _. Many (IsLiveBelowRoot (S.live space.now))
+        (budget + 1))) }
+    ensures bound { IfOk result (λ outcome. IfSpent outcome (BoundsLeaves (S.live space.now)
+        (S.height space.now))) }
+    ensures floor { IfOk result (λ outcome. IfSpent outcome (λ bound. (floor : ℕ) → S.live space.now []
+        ≡ Some floor → floor ≤ bound)) }
+    ensures enough { AtMost (IsLiveBelowRoot (S.live space.now)) budget
+        → IfOk result (λ outcome. ¬ IsSpent outcome) }
+
+    // The budget is spent exactly where more nodes than that are to be opened.
+    ensures opened { IfOk result (λ outcome. IsSpent outcome
+        ↔ Many (IsOpened (S.live space.now) (S.height space.now)) (budget + 1)) }
+{
+    let Spending { outcome, left: _ } = spend_depth(alloc, space, budget)?;
+    Ok(outcome)
+}

@@ -14,7 +14,7 @@ mod space;
 mod trail;
 
 pub use both::outcomes_agree;
-pub use depth::{Spending, spend_depth};
+pub use depth::{Spending, search_depth, spend_depth};
 pub use first::search_front;
 pub use front::search_nth;
 pub use outcome::{Numbered, Outcome};
