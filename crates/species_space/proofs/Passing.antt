@@ -113,15 +113,22 @@ free_cells before (c ∷ cs) free zero = free_cell c (free 0 c (omega arith))
 free_cells before (c ∷ cs) free (suc v) =
     free_cells (λ w. before (suc w)) cs (λ j d lt. free (suc j) d (omega (arith, lt))) v
 
+-- where the column of a number follows, it is the first one from there on that does
+pub here_is_next : (menu : List (List Cell)) (before : List Cell) (from : ℕ) → from ≤ length menu
+    → (from < length menu → ColumnFollows before (slice_index_or menu from [])) → IsNext menu before from from
+here_is_next menu before from le here = record {
+  onward = omega arith;
+  within = le;
+  follows = here;
+  passed = λ k a b follows. absurd (omega (arith, a, b));
+}
+
 -- at a menu without holds every column follows
 pub all_are_next : (menu : List (List Cell)) (before : List Cell) (from : ℕ) → All IsWithoutHolds menu
     → from ≤ length menu → IsNext menu before from from
-all_are_next menu before from free le = record {
-  onward = omega arith;
-  within = le;
-  follows = λ lt. free_cells (cell_in before) (slice_index_or menu from []) (free from [] lt);
-  passed = λ k a b follows. absurd (omega (arith, a, b));
-}
+all_are_next menu before from free le =
+    here_is_next menu before from le
+    (λ lt. free_cells (cell_in before) (slice_index_or menu from []) (free from [] lt))
 
 -- ---- a walk by blocks
 

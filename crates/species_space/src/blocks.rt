@@ -79,8 +79,9 @@ impl<'a> MenuView<'a> {
     }
 
     /// The first column, from this number on, that may follow; the menu's length where there is
-    /// none. Where nothing is held all may follow. Of the columns of holds that begin the menu at
-    /// most one may follow, and the hint is tried first.
+    /// none. Where nothing is held all may follow. Behind the columns of holds that begin the menu
+    /// the column of this number mostly does, and then no more is asked.
+    #[inline(always)]
     pub fn next_that_follows(&self, before: &[Cell], from: usize, hint: usize) -> usize
         requires cut { IsCut self.now }
         requires within { from ≤ length (columns_seen self.now) }
@@ -89,6 +90,35 @@ impl<'a> MenuView<'a> {
         if self.blocks.without_holds {
             return from;
         }
+        let held = self.blocks.held as usize;
+        if from < held {
+            return self.next_by_hint(before, from, hint);
+        }
+        if self.follows_at(before, from) {
+            return from;
+        }
+        self.next_in_blocks(before, from)
+    }
+
+    /// Whether there is a column of this number, and it may follow.
+    #[inline(always)]
+    fn follows_at(&self, before: &[Cell], k: usize) -> bool
+        ensures { IsTrue result → ColumnFollows before.now
+            (slice_index_or (columns_seen self.now) k []) }
+    {
+        if k >= self.len() {
+            return false;
+        }
+        self.may_follow(before, k)
+    }
+
+    /// The same as `next_that_follows`, from a column of holds that begins the menu: of these at
+    /// most one may follow, and the hint is tried first.
+    fn next_by_hint(&self, before: &[Cell], from: usize, hint: usize) -> usize
+        requires cut { IsCut self.now }
+        requires within { from ≤ length (columns_seen self.now) }
+        ensures { IsNext (columns_seen self.now) before.now from result }
+    {
         if !self.is_held(before, hint) {
             let start = self.past_holds(before, from, hint);
             return self.next_in_blocks(before, start);
