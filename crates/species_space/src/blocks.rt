@@ -10,7 +10,7 @@ ghost use Rattle.rule_law.specs.Bars.{begins_bar};
 ghost use Rattle.species_space.specs.Blocks.{Agree, AreAlike, AreBlocksOf, AreHeldFirst, ArePassedOver, AreStrays, HasOneWidth, IsNumberAt, IsBlockEnd, IsCut, IsHeldNext, IsNext, IsOnlyHolds, IsWithoutHolds, KeepsCell, columns_seen, same_cell};
 
 use fux_grid::{Cell, Column, cell_of, cells_follow};
-use rule_law::{RuleSet, begins_bar};
+use rule_law::{RuleSet, begins_bar, starts};
 
 /// How a menu is cut into blocks of equal length, for each voice into blocks of its own, over each
 /// of which the voice keeps its cell.
@@ -229,14 +229,33 @@ impl<'a> MenuView<'a> {
         end
     }
 
+    /// Whether there is a column of this number in which a voice but the highest starts a note.
+    /// Only then does it spare a question to know that the lowest voices have been asked already.
+    #[inline(always)]
+    fn has_lower_start(&self, k: usize) -> bool {
+        if k >= self.columns.len() {
+            return false;
+        }
+        let cells = column_at(self.columns, k).as_slice();
+        for v in 0..cells.len().saturating_sub(1) {
+            if starts(cell_of(cells, v)) {
+                return true;
+            }
+        }
+        false
+    }
+
     /// In how many of the lowest voices two columns are known to have the same cells; no more voices
-    /// than so many are compared.
+    /// than so many are compared, and none where the second starts no note in them but the highest.
     #[inline]
     pub fn lowest_alike(&self, j: usize, k: usize, most: usize) -> usize
         ensures few { result ≤ most }
         ensures alike { AreAlike result (slice_index_or (columns_seen self.now) j [])
             (slice_index_or (columns_seen self.now) k []) }
     {
+        if !self.has_lower_start(k) {
+            return 0;
+        }
         if j >= self.columns.len() || k >= self.columns.len() {
             return 0;
         }
