@@ -270,7 +270,7 @@ fn charge_together(ex: &Exercise, sheet: &Sheet, state: &State, col: &Column) ->
 }
 
 /// Whether what all voices cost and what they cost together reach the limit, where there is one.
-#[inline]
+#[inline(always)]
 fn costs_too_much(
     limit: Option<u64>,
     least: u64,

@@ -20,6 +20,7 @@ use penalty_sheet::{Sheet, weight};
 use rule_law::{RuleCrate, is_free, starts};
 
 /// What a toll that is settled at once costs, without its weight.
+#[inline(always)]
 #[tactic(auto, unfolding(crate::specs::Rules::toll_at))]
 fn cost(toll: u8, m: &Moment<'_>) -> u32
     requires soon { is_late_toll toll ≡ false }
@@ -39,7 +40,9 @@ fn cost(toll: u8, m: &Moment<'_>) -> u32
     )
 }
 
-/// What it costs by its weight.
+/// What it costs by its weight. Each toll is asked by its own number, so that what depends on the
+/// number alone is settled before the program runs.
+#[inline(always)]
 fn charge(toll: u8, sheet: &Sheet, m: &Moment<'_>) -> u64
     requires first { 1 ≤ toll }
     requires last { toll ≤ greatest_toll }
