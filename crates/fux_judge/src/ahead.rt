@@ -129,8 +129,9 @@ fn allows_start(ex: &Exercise, v: u8, i: usize, pitch: Pitch) -> bool
 }
 
 /// Whether the menu of a column has a start of a free voice, where the voice holds a note of this
-/// pitch in one of its columns.
-#[inline]
+/// pitch in one of its columns. It stays a call, since a voice that starts a note asks nothing of
+/// it and shouldn't pay for the tables of shapes.
+#[inline(never)]
 fn may_start_anew(ex: &Exercise, v: u8, i: usize, pitch: Pitch) -> bool
     requires valid { IsValid ex.now }
     requires free { IsFree ex.now v }

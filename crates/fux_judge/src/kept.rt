@@ -47,8 +47,18 @@ fn begins_no_line(m: &Moment<'_>) -> bool
     true
 }
 
+/// Whether the column breaks S12 strictly. It stays a call, since few columns begin a line.
+#[inline(never)]
+fn breaks_opening(m: &Moment<'_>) -> bool
+    requires { IsReadable m.now }
+    ensures { (p : Columns) → IsAfter p m.now → result
+        ≡ is_strictly_broken_then all_sets 12 p m.now }
+{
+    is_strictly_broken_now(12, m)
+}
+
 /// Whether the column keeps S12: where no voice's first note starts in it, nothing has to fit.
-#[inline]
+#[inline(always)]
 pub(crate) fn opens_well(m: &Moment<'_>) -> bool
     requires { IsReadable m.now }
     ensures { (p : Columns) → IsAfter p m.now → result
@@ -57,7 +67,7 @@ pub(crate) fn opens_well(m: &Moment<'_>) -> bool
     if begins_no_line(m) {
         return true;
     }
-    !is_strictly_broken_now(12, m)
+    !breaks_opening(m)
 }
 
 /// The rules that are left to read of a column of which all but S12 is told: none, or all.
