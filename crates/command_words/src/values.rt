@@ -1,22 +1,22 @@
 //! What the values that words give ask for.
 
-ghost use Rattle.std.specs.Prelude.{◌≡◌, ◌≤◌, ◌<◌, IfSome, option_map};
+ghost use Rattle.std.specs.Prelude.{◌≡◌, ◌≤◌, ◌<◌, IfSome, option_and_then, option_map};
 ghost use Rattle.clap.specs.Words.{first_of, found_of, rows_of};
 ghost use Rattle.fux_grid.specs.Namings.{AreNamed};
-ghost use Rattle.fux_text.specs.Names.{mode_named};
+ghost use Rattle.fux_text.specs.Names.{mode_named, pitch_named};
 ghost use Rattle.smf_score.specs.Heads.{IsHead};
 ghost use Rattle.text_lines.specs.Numbers.{number_within};
-ghost use Rattle.command_words.specs.Commands.{HasHead, HasMidiHead, IsNamedSubject, IsWanted, against_in, are_a_class, asks, before_in, before_nth, best_asked, budget_in, canon_asked, cantus_asked, cantus_of, certify_asked, certify_cantus_asked, check_asked, check_cantus_asked, class_asked, classing_of, compose_asked, composing, drill_asked, either_asked, either_by, explain_asked, files_asked, files_in, filing_of, form_in, from_smf_asked, goes_on, head_in, is_item, is_set, job_asked, join_smf_asked, kind_in, making_task, manner_in, mark_asked, mark_mixed_asked, marking_of, mixed_asked, mixed_by, mixing, named_in, new_cantus_asked, number_at, page_of, paged_in, picture_asked, print_asked, said_of, search_in, subject_in, task_of, texts, wanted_in, weigh_asked, weighing_with, wrap_in};
+ghost use Rattle.command_words.specs.Commands.{HasHead, HasMidiHead, IsNamedSubject, IsWanted, against_in, are_a_class, asks, before_in, before_nth, best_asked, budget_in, canon_asked, cantus_asked, cantus_of, certify_asked, certify_cantus_asked, check_asked, check_cantus_asked, class_asked, classing_of, compose_asked, composing, drill_asked, either_asked, either_by, explain_asked, files_asked, files_in, filing_of, form_in, from_smf_asked, goes_on, head_in, if_rising, is_item, is_set, job_asked, join_smf_asked, kind_in, making_task, manner_in, mark_asked, mark_mixed_asked, marking_of, mixed_asked, mixed_by, mixing, named_in, new_cantus_asked, number_at, page_of, paged_in, picture_asked, print_asked, said_of, search_in, subject_in, task_of, texts, wanted_in, weigh_asked, weighing_with, wrap_in};
 
 use crate::command::{Command, FileKind, Job, Making, MixedJob, Named, Search, Subject, Wanted};
 use crate::verbs::Verb;
 use cert_text::Form;
 use clap::ArgMatches;
 use fux_grid::Head;
-use fux_pitch::{Mode, semitone};
-use fux_text::parse_pitch;
+use fux_pitch::{Mode, Pitch, semitone};
+use fux_text::{parse_mode, parse_pitch};
 use smf_score::Manner;
-use text_lines::{is_same, parse_number};
+use text_lines::parse_number;
 
 const USUAL_BUDGET: u32 = 1_000_000;
 
@@ -134,27 +134,20 @@ fn is_set(matches: &ArgMatches<'_>, id: &str) -> bool
     }
 }
 
-/// The mode of a name.
-#[tactic(auto, unfolding(fux_text::specs::Names::mode_named))]
-fn mode_named(word: &str) -> Option<Mode>
-    ensures { result ≡ mode_named word.now }
+/// The mode at an option or a word.
+fn mode_at(matches: &ArgMatches<'_>, id: &str) -> Option<Mode>
+    ensures { result
+        ≡ option_and_then mode_named (first_of id.now (rows_of (found_of matches.now))) }
 {
-    let name = word.as_bytes();
-    if is_same(b"dorian", name) {
-        Some(Mode::Dorian)
-    } else if is_same(b"phrygian", name) {
-        Some(Mode::Phrygian)
-    } else if is_same(b"lydian", name) {
-        Some(Mode::Lydian)
-    } else if is_same(b"mixolydian", name) {
-        Some(Mode::Mixolydian)
-    } else if is_same(b"aeolian", name) {
-        Some(Mode::Aeolian)
-    } else if is_same(b"ionian", name) {
-        Some(Mode::Ionian)
-    } else {
-        None
-    }
+    parse_mode(value(matches, id)?.as_bytes())
+}
+
+/// The pitch at an option or a word.
+fn pitch_at(matches: &ArgMatches<'_>, id: &str) -> Option<Pitch>
+    ensures { result
+        ≡ option_and_then pitch_named (first_of id.now (rows_of (found_of matches.now))) }
+{
+    parse_pitch(value(matches, id)?.as_bytes())
 }
 
 /// How a MIDI file is to be read.
@@ -162,7 +155,7 @@ fn head_of(matches: &ArgMatches<'_>) -> Option<Head>
     ensures value { result ≡ head_in (rows_of (found_of matches.now)) }
     ensures head { IfSome result IsHead }
 {
-    let mode = mode_named(value(matches, "mode")?)?;
+    let mode = mode_at(matches, "mode")?;
     let species = number_at(matches, "species", 1, 5)?;
     let voice = number_at(matches, "voice", 0, 3)?;
     let cantus = number_at(matches, "cantus", 0, 3)?;
@@ -722,25 +715,35 @@ fn picture_asked<'a>(matches: &ArgMatches<'a>) -> Option<Command<'a>>
     Some(Command::Make(Making::OnExercise { name, sheet, job }))
 }
 
+/// What is wanted, where its range doesn't fall.
+fn if_rising(wanted: Wanted) -> Option<Wanted>
+    requires fewest { 3 ≤ wanted.bars }
+    requires most { wanted.bars ≤ 24 }
+    ensures value { result ≡ if_rising wanted }
+    ensures wanted { IfSome result IsWanted }
+{
+    if semitone(wanted.low) <= semitone(wanted.high) {
+        Some(wanted)
+    } else {
+        None
+    }
+}
+
 /// What is asked of a new cantus.
 fn wanted_of(matches: &ArgMatches<'_>) -> Option<Wanted>
     ensures value { result ≡ wanted_in (rows_of (found_of matches.now)) }
     ensures wanted { IfSome result IsWanted }
 {
-    let mode = mode_named(value(matches, "MODE")?)?;
+    let mode = mode_at(matches, "MODE")?;
     let bars = number_at(matches, "BARS", 3, 24)?;
-    let low = parse_pitch(value(matches, "LOW")?.as_bytes())?;
-    let high = parse_pitch(value(matches, "HIGH")?.as_bytes())?;
-    if semitone(low) <= semitone(high) {
-        Some(Wanted {
-            mode,
-            bars: bars as u8,
-            low,
-            high,
-        })
-    } else {
-        None
-    }
+    let low = pitch_at(matches, "LOW")?;
+    let high = pitch_at(matches, "HIGH")?;
+    if_rising(Wanted {
+        mode,
+        bars: bars as u8,
+        low,
+        high,
+    })
 }
 
 /// `newcantus`, of what is asked of it.
