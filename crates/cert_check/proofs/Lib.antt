@@ -3,6 +3,7 @@ pub mod CellTests
 pub mod CheckerLemmas
 pub mod EnteringLemmas
 pub mod HeadLemmas
+pub mod JudgedLemmas
 pub mod LargeTexts
 pub mod PricedLemmas
 pub mod RefusedLemmas

@@ -11,6 +11,8 @@ use Rattle.cert_check.specs.declared.checking.CheckFault.{CheckFault}
 use Rattle.cert_check.specs.declared.checking.CheckFault.TheVariants.{Unreadable, TooWide, TooLarge, Memory}
 use Rattle.cert_file.specs.declared.verdict.Verdict.{Verdict}
 use Rattle.cert_file.specs.declared.verdict.Verdict.TheVariants as verdict
+use Rattle.chain_sums.specs.declared.tables.TableFault.{TableFault}
+use Rattle.chain_sums.specs.declared.tables.TableFault.TheVariants as filling
 use Rattle.floor_tables.specs.Tables.{IsTooWide}
 use Rattle.fux_grid.specs.declared.exercise.Exercise.{Exercise}
 use Rattle.fux_grid.specs.Exercises.{IsValid}
@@ -47,6 +49,11 @@ abbrev pub unstarted : ReadFault → Result Verdict CheckFault
 unstarted reading.Unreadable = Err Unreadable
 unstarted (reading.Text NoMemory) = Err Memory
 unstarted (reading.Text fault) = Ok (verdict.Text fault)
+
+-- the answer where no tables are filled
+abbrev pub unfilled : TableFault → Result Verdict CheckFault
+unfilled (filling.TooWide place count) = Err (TooWide place count)
+unfilled filling.Memory = Err Memory
 
 -- the answer where the checker isn't opened
 abbrev pub unopened : OpenFault → Result Verdict CheckFault

@@ -1,5 +1,6 @@
 pub mod Answers
 pub mod Entering
+pub mod Judged
 pub mod Listed
 pub mod Opening
 pub mod Settings

@@ -2,12 +2,13 @@
 
 ghost use Rattle.std.specs.Prelude.{◌≡◌, ◌≢◌, ◌+◌, ◌≤◌, ◌⊎◌, [], Err, IfErr, IfOk, OnOk};
 ghost use Rattle.cert_text.specs.declared.answers.CertHead.{CertHead as AHead};
-ghost use Rattle.cert_check.specs.Answers.{Answers, IsHeadless, TellsNoWidth, unopened, unstarted};
+ghost use Rattle.cert_check.specs.Answers.{Answers, IsHeadless, TellsNoWidth, unfilled, unopened, unstarted};
 ghost use Rattle.cert_check.specs.Entering.{unclosed};
+ghost use Rattle.cert_check.specs.Judged.{AreClaimsJudged, IsFileJudged, shelved};
 ghost use Rattle.cert_check.specs.Listed.{unwoven};
 ghost use Rattle.cert_check.specs.declared.checking.CheckFault.TheVariants.{Memory as no_memory};
 ghost use Rattle.cert_file.specs.Checking.{opened_at};
-ghost use Rattle.cert_file.specs.Nearness.{IsReadNear, ReadsNear};
+ghost use Rattle.cert_file.specs.Nearness.{IsReadNear};
 ghost use Rattle.cert_file.specs.Readings.{longest_piece};
 ghost use Rattle.cert_check.specs.Settings.{AcceptsValid, IsOpeningText, setting_subject};
 ghost use Rattle.cert_check.specs.Starts.{IsStarted};
@@ -116,6 +117,31 @@ pub fn check_file<R: Threads + Sync, F: Shelf>(
         Ok(started) => started,
         Err(fault) => return not_started(fault),
     };
+    check_form(rt, alloc, ex, sheet, shelf, name, form, head, pieces)
+}
+
+/// Judges what stands behind a head of this form.
+fn check_form<R: Threads + Sync, F: Shelf>(
+    rt: &R,
+    alloc: Global,
+    ex: &Exercise,
+    sheet: &Sheet,
+    shelf: &mut F,
+    name: &str,
+    form: Form,
+    head: CertHead,
+    pieces: Pieces,
+) -> Result<Verdict, CheckFault>
+    requires valid { IsValid ex.now }
+    requires started { IsStarted ex.now (F.files shelf.old) name.now form head pieces }
+    requires limit { pieces.offset ≤ longest_piece }
+    ensures judged { IsFileJudged (record { exercise = ex.now; sheet = sheet.now }) name.now
+        (ServesWhole (F.serves shelf.old) name.now 1073741824)
+        (shelved (F.files shelf.old) (F.faults shelf.old) (F.given shelf.old))
+        (shelved (F.files shelf.new) (F.faults shelf.new) (F.given shelf.new + pieces.offset))
+        result }
+    ensures wide { (AreNarrow ex.now → ⊥) → IfOk result IsHeadless }
+{
     match form {
         Form::First => check_first(rt, alloc, ex, sheet, shelf, name, head, pieces),
         Form::Second => check_second(rt, alloc, ex, sheet, shelf, name, head, pieces),
@@ -137,25 +163,16 @@ fn check_first<R: Threads + Sync, F: Shelf>(
     requires valid { IsValid ex.now }
     requires started { IsStarted ex.now (F.files shelf.old) name.now Form.First head pieces }
     requires limit { pieces.offset ≤ longest_piece }
-    ensures answers { Answers ex.now sheet.now (F.files shelf.old) name.now
-        (Rose (F.faults shelf.old) (F.faults shelf.new)) result }
+    ensures judged { IsFileJudged (record { exercise = ex.now; sheet = sheet.now }) name.now
+        (ServesWhole (F.serves shelf.old) name.now 1073741824)
+        (shelved (F.files shelf.old) (F.faults shelf.old) (F.given shelf.old))
+        (shelved (F.files shelf.new) (F.faults shelf.new) (F.given shelf.new + pieces.offset))
+        result }
     ensures narrow { OnOk result (AreNarrow ex.now) }
-    ensures served { ServesWhole (F.serves shelf.old) name.now 1073741824
-        → IfErr result (λ fault. fault ≢ CheckFault.Unreadable) }
-    ensures little { F.given shelf.new + pieces.offset ≤ F.given shelf.old + 1073741825 }
-    ensures near { IfOk result (IsReadNear (setting_subject (record {
-      exercise = ex.now;
-      sheet = sheet.now;
-    })) (F.files shelf.old) name.now (F.given shelf.old) (F.given shelf.new + pieces.offset)) }
-    ensures files { F.files shelf.new ≡ F.files shelf.old }
-    ensures faults { F.faults shelf.old ≤ F.faults shelf.new }
 {
     let tables = match fill_tables(rt, alloc, ex, sheet) {
         Ok(tables) => tables,
-        Err(TableFault::TooWide { place, count }) => {
-            return Err(CheckFault::TooWide { place, count });
-        }
-        Err(TableFault::Memory) => return Err(CheckFault::Memory),
+        Err(fault) => return not_filled(fault),
     };
     let checker = match Checker::open(alloc, ex, sheet, head, &tables) {
         Ok(checker) => checker,
@@ -178,18 +195,12 @@ fn check_second<R: Threads + Sync, F: Shelf>(
     requires valid { IsValid ex.now }
     requires started { IsStarted ex.now (F.files shelf.old) name.now Form.Second head pieces }
     requires limit { pieces.offset ≤ longest_piece }
-    ensures answers { Answers ex.now sheet.now (F.files shelf.old) name.now
-        (Rose (F.faults shelf.old) (F.faults shelf.new)) result }
+    ensures judged { IsFileJudged (record { exercise = ex.now; sheet = sheet.now }) name.now
+        (ServesWhole (F.serves shelf.old) name.now 1073741824)
+        (shelved (F.files shelf.old) (F.faults shelf.old) (F.given shelf.old))
+        (shelved (F.files shelf.new) (F.faults shelf.new) (F.given shelf.new + pieces.offset))
+        result }
     ensures narrow { OnOk result (AreNarrow ex.now) }
-    ensures served { ServesWhole (F.serves shelf.old) name.now 1073741824
-        → IfErr result (λ fault. fault ≢ CheckFault.Unreadable) }
-    ensures little { F.given shelf.new + pieces.offset ≤ F.given shelf.old + 1073741825 }
-    ensures near { IfOk result (IsReadNear (setting_subject (record {
-      exercise = ex.now;
-      sheet = sheet.now;
-    })) (F.files shelf.old) name.now (F.given shelf.old) (F.given shelf.new + pieces.offset)) }
-    ensures files { F.files shelf.new ≡ F.files shelf.old }
-    ensures faults { F.faults shelf.old ≤ F.faults shelf.new }
 {
     let mut stated = match Stated::open(alloc, ex, sheet, head) {
         Ok(stated) => stated,
@@ -215,15 +226,11 @@ fn judge_claims<F: Shelf, T: Tails + Drop>(
     requires fresh { checker ≡ opened_at checker.asked checker.head [] }
     requires opened { IsOpened (IsOpeningText checker.asked.exercise) (F.files shelf.old) name.now
         checker.head reader }
-    ensures answers { Answers checker.entry.asked.exercise checker.entry.asked.sheet
-        (F.files shelf.old) name.now (Rose (F.faults shelf.old) (F.faults shelf.new)) result }
-    ensures served { ServesWhole (F.serves shelf.old) name.now 1073741824
-        → IfErr result (λ fault. fault ≢ CheckFault.Unreadable) }
-    ensures little { F.given shelf.new + reader.offset ≤ F.given shelf.old + 1073741825 }
-    ensures near { IfOk result (ReadsNear (setting_subject checker.entry.asked) checker.entry.head
-        (F.files shelf.old) name.now (F.given shelf.old) (F.given shelf.new + reader.offset)) }
-    ensures files { F.files shelf.new ≡ F.files shelf.old }
-    ensures faults { F.faults shelf.old ≤ F.faults shelf.new }
+    ensures { AreClaimsJudged checker.entry.asked checker.entry.head name.now
+        (ServesWhole (F.serves shelf.old) name.now 1073741824)
+        (shelved (F.files shelf.old) (F.faults shelf.old) (F.given shelf.old))
+        (shelved (F.files shelf.new) (F.faults shelf.new) (F.given shelf.new + reader.offset))
+        result }
 {
     checker.kept();
     match judge(shelf, name, &mut reader, checker) {
@@ -240,6 +247,16 @@ pub(crate) fn not_started(fault: ReadFault) -> Result<Verdict, CheckFault>
         ReadFault::Unreadable => Err(CheckFault::Unreadable),
         ReadFault::Text(CertFault::Memory) => Err(CheckFault::Memory),
         ReadFault::Text(fault) => Ok(Verdict::Text(fault)),
+    }
+}
+
+/// The answer where no tables are filled.
+pub(crate) fn not_filled(fault: TableFault) -> Result<Verdict, CheckFault>
+    ensures { result ≡ unfilled fault }
+{
+    match fault {
+        TableFault::TooWide { place, count } => Err(CheckFault::TooWide { place, count }),
+        TableFault::Memory => Err(CheckFault::Memory),
     }
 }
 

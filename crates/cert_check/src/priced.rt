@@ -1,28 +1,26 @@
 //! Certificates of the third form: lists of prices behind the head, and then the claims.
 
-ghost use Rattle.std.specs.Prelude.{◌≡◌, ◌≢◌, ◌+◌, ◌≤◌, [], map, IfErr, IfOk, OnOk};
-ghost use Rattle.cert_check.specs.Answers.{Answers, IsHeadless};
+ghost use Rattle.std.specs.Prelude.{◌≡◌, ◌+◌, ◌≤◌, [], map, IfErr, IfOk, OnOk};
+ghost use Rattle.cert_check.specs.Answers.{IsHeadless};
+ghost use Rattle.cert_check.specs.Judged.{AreClaimsJudged, IsFileJudged, shelved};
 ghost use Rattle.cert_check.specs.Listed.{AreTaken, IsFrontSound, IsJudgedFront, TellsStop};
-ghost use Rattle.cert_check.specs.Settings.{IsOpeningText, Lists, setting_subject};
+ghost use Rattle.cert_check.specs.Settings.{IsOpeningText, Lists};
 ghost use Rattle.cert_check.specs.Starts.{IsStarted};
 ghost use Rattle.cert_file.specs.Checking.{opened_at};
-ghost use Rattle.cert_file.specs.Nearness.{IsReadNear, ReadsNear};
 ghost use Rattle.cert_file.specs.Readings.{longest_piece};
 ghost use Rattle.cert_file.specs.Subjects.{IsOpened};
 ghost use Rattle.floor_tables.specs.Tables.{AreNarrow};
 ghost use Rattle.fux_grid.specs.Exercises.{IsValid};
-ghost use Rattle.fux_port.specs.Counts.{Rose};
 ghost use Rattle.fux_port.specs.Promises.{ServesWhole};
 ghost use Rattle.price_text.specs.Lists.{AreLists};
 ghost use Rattle.price_text.specs.PriceLines.{line_of};
 
-use crate::checking::{CheckFault, not_started};
+use crate::checking::{CheckFault, not_filled, not_started};
 use crate::head::is_sound;
 use crate::sharp_checker::SharpChecker;
 use cert_file::{Pieces, ReadFault, Reader, Verdict, judge};
 use cert_law::{Case, weights_are_small};
 use cert_text::{CertFault, CertHead, Form, Refused, Why};
-use floor_tables::TableFault;
 use fux_grid::Exercise;
 use fux_port::{Failed, Shelf};
 use menu_tails::MenuTails;
@@ -96,15 +94,11 @@ fn judge_claims<F: Shelf>(
     requires fresh { checker ≡ opened_at checker.asked checker.head [] }
     requires opened { IsOpened (IsOpeningText checker.asked.exercise) (F.files shelf.old) name.now
         checker.head reader }
-    ensures answers { Answers checker.entry.asked.exercise checker.entry.asked.sheet
-        (F.files shelf.old) name.now (Rose (F.faults shelf.old) (F.faults shelf.new)) result }
-    ensures served { ServesWhole (F.serves shelf.old) name.now 1073741824
-        → IfErr result (λ fault. fault ≢ CheckFault.Unreadable) }
-    ensures little { F.given shelf.new + reader.offset ≤ F.given shelf.old + 1073741825 }
-    ensures near { IfOk result (ReadsNear (setting_subject checker.entry.asked) checker.entry.head
-        (F.files shelf.old) name.now (F.given shelf.old) (F.given shelf.new + reader.offset)) }
-    ensures files { F.files shelf.new ≡ F.files shelf.old }
-    ensures faults { F.faults shelf.old ≤ F.faults shelf.new }
+    ensures { AreClaimsJudged checker.entry.asked checker.entry.head name.now
+        (ServesWhole (F.serves shelf.old) name.now 1073741824)
+        (shelved (F.files shelf.old) (F.faults shelf.old) (F.given shelf.old))
+        (shelved (F.files shelf.new) (F.faults shelf.new) (F.given shelf.new + reader.offset))
+        result }
 {
     checker.kept();
     match judge(shelf, name, &mut reader, checker) {
@@ -128,18 +122,12 @@ fn judge_lists<R: Threads + Sync, F: Shelf>(
     requires front { IsFrontSound space.now.exercise space.now.sheet head.now (map line_of lines.now) }
     requires opened { IsOpened (IsOpeningText space.now.exercise) (F.files shelf.old) name.now
         (record { head = head.now; stated = Lists (map line_of lines.now) }) reader }
-    ensures answers { Answers space.now.exercise space.now.sheet (F.files shelf.old) name.now
-        (Rose (F.faults shelf.old) (F.faults shelf.new)) result }
-    ensures served { ServesWhole (F.serves shelf.old) name.now 1073741824
-        → IfErr result (λ fault. fault ≢ CheckFault.Unreadable) }
-    ensures little { F.given shelf.new + reader.offset ≤ F.given shelf.old + 1073741825 }
-    ensures near { IfOk result (ReadsNear (setting_subject (record {
-      exercise = space.now.exercise;
-      sheet = space.now.sheet;
-    })) (record { head = head.now; stated = Lists (map line_of lines.now) }) (F.files shelf.old)
-        name.now (F.given shelf.old) (F.given shelf.new + reader.offset)) }
-    ensures files { F.files shelf.new ≡ F.files shelf.old }
-    ensures faults { F.faults shelf.old ≤ F.faults shelf.new }
+    ensures { AreClaimsJudged (record { exercise = space.now.exercise; sheet = space.now.sheet })
+        (record { head = head.now; stated = Lists (map line_of lines.now) }) name.now
+        (ServesWhole (F.serves shelf.old) name.now 1073741824)
+        (shelved (F.files shelf.old) (F.faults shelf.old) (F.given shelf.old))
+        (shelved (F.files shelf.new) (F.faults shelf.new) (F.given shelf.new + reader.offset))
+        result }
 {
     let exercise = space.exercise();
     let sheet = space.sheet();
@@ -180,25 +168,16 @@ fn judge_priced<R: Threads + Sync, F: Shelf>(
           = Lists (map line_of lines.now);
     }) reader }
     requires limit { reader.offset ≤ longest_piece }
-    ensures answers { Answers ex.now sheet.now (F.files shelf.old) name.now
-        (Rose (F.faults shelf.old) (F.faults shelf.new)) result }
+    ensures judged { IsFileJudged (record { exercise = ex.now; sheet = sheet.now }) name.now
+        (ServesWhole (F.serves shelf.old) name.now 1073741824)
+        (shelved (F.files shelf.old) (F.faults shelf.old) (F.given shelf.old))
+        (shelved (F.files shelf.new) (F.faults shelf.new) (F.given shelf.new + reader.offset))
+        result }
     ensures narrow { OnOk result (AreNarrow ex.now) }
-    ensures served { ServesWhole (F.serves shelf.old) name.now 1073741824
-        → IfErr result (λ fault. fault ≢ CheckFault.Unreadable) }
-    ensures little { F.given shelf.new + reader.offset ≤ F.given shelf.old + 1073741825 }
-    ensures near { IfOk result (IsReadNear (setting_subject (record {
-      exercise = ex.now;
-      sheet = sheet.now;
-    })) (F.files shelf.old) name.now (F.given shelf.old) (F.given shelf.new + reader.offset)) }
-    ensures files { F.files shelf.new ≡ F.files shelf.old }
-    ensures faults { F.faults shelf.old ≤ F.faults shelf.new }
 {
     let space = match SpeciesSpace::new(rt, alloc, ex, sheet) {
         Ok(space) => space,
-        Err(TableFault::TooWide { place, count }) => {
-            return Err(CheckFault::TooWide { place, count });
-        }
-        Err(TableFault::Memory) => return Err(CheckFault::Memory),
+        Err(fault) => return not_filled(fault),
     };
     if let Some(refused) = front_refusal(ex, sheet, head, lines) {
         return Ok(Verdict::Claim(refused));
@@ -220,18 +199,12 @@ pub(crate) fn check_third<R: Threads + Sync, F: Shelf>(
     requires valid { IsValid ex.now }
     requires started { IsStarted ex.now (F.files shelf.old) name.now Form.Third head pieces }
     requires limit { pieces.offset ≤ longest_piece }
-    ensures answers { Answers ex.now sheet.now (F.files shelf.old) name.now
-        (Rose (F.faults shelf.old) (F.faults shelf.new)) result }
+    ensures judged { IsFileJudged (record { exercise = ex.now; sheet = sheet.now }) name.now
+        (ServesWhole (F.serves shelf.old) name.now 1073741824)
+        (shelved (F.files shelf.old) (F.faults shelf.old) (F.given shelf.old))
+        (shelved (F.files shelf.new) (F.faults shelf.new) (F.given shelf.new + pieces.offset))
+        result }
     ensures wide { (AreNarrow ex.now → ⊥) → IfOk result IsHeadless }
-    ensures served { ServesWhole (F.serves shelf.old) name.now 1073741824
-        → IfErr result (λ fault. fault ≢ CheckFault.Unreadable) }
-    ensures little { F.given shelf.new + pieces.offset ≤ F.given shelf.old + 1073741825 }
-    ensures near { IfOk result (IsReadNear (setting_subject (record {
-      exercise = ex.now;
-      sheet = sheet.now;
-    })) (F.files shelf.old) name.now (F.given shelf.old) (F.given shelf.new + pieces.offset)) }
-    ensures files { F.files shelf.new ≡ F.files shelf.old }
-    ensures faults { F.faults shelf.old ≤ F.faults shelf.new }
 {
     let lines = match take_lists(alloc, ex, &mut pieces) {
         Ok(lines) => lines,

@@ -1,34 +1,61 @@
-use Rattle.std.proofs.Common.{◌≡◌, ◌+◌, inl, List, [], None, Result, refl, sym, ap, subst, arith}
-use Rattle.std.specs.Prelude.{IfOk}
-use Rattle.std.proofs.lemmas.Result.{IfOk-weaker}
-use Rattle.cert_check.specs.Answers.{Answers}
+use Rattle.std.proofs.Common.{◌≡◌, ◌+◌, ℕ, List, [], None, Result, refl, sym, ap, subst}
 use Rattle.cert_file.specs.Checking.{Checking, opened_at}
 use Rattle.cert_file.specs.Subjects.{IsOpened}
-use Rattle.cert_check.specs.Settings.{Asked, IsOpeningText, Numbers, Opening, setting_subject}
-use Rattle.cert_file.specs.Nearness.{ReadsNear}
-use Rattle.cert_file.proofs.NearLemmas.{each_verdict, near_moved}
+use Rattle.cert_check.specs.Judged.{AreClaimsJudged, IsFileJudged, shelved}
+use Rattle.cert_check.specs.Settings.{Asked, IsOpeningText, Numbers, Opening}
 use Rattle.fux_grid.specs.declared.cell.Cell.{Cell}
+use Rattle.cert_check.specs.Answers.{unfilled, unopened}
 use Rattle.cert_check.specs.declared.checking.CheckFault.{CheckFault}
-use Rattle.cert_check.proofs.AnswerLemmas.{first_opened, opening_answer, unopened_narrow}
+use Rattle.cert_check.proofs.AnswerLemmas.{first_opened, opening_answer, unfilled_answer, unfilled_narrow, unfilled_served, unopened_narrow, unopened_served}
+use Rattle.cert_check.proofs.JudgedLemmas.{behind_front, unread}
 use Rattle.cert_file.specs.Readings.{Reading}
 use Rattle.cert_file.specs.declared.verdict.Verdict.{Verdict}
 use Rattle.cert_text.specs.declared.answers.Form.TheVariants.{First}
 use Rattle.fux_port.specs.Counts.{Rose}
+use Rattle.fux_port.specs.Promises.{ServesWhole}
+use Rattle.cert_file.proofs.NearLemmas.{each_verdict}
+use Rattle.floor_tables.specs.Tables.{AreNarrow}
 use Rattle.cert_check.proofs.checking.check_first.Goals as goal
 
-pub returns-in-Err-clause-answers : goal.returns-in-Err-clause-answers
-returns-in-Err-clause-answers g c =
+pub returns-in-Err-clause-judged : goal.returns-in-Err-clause-judged
+returns-in-Err-clause-judged g c =
     let files = g.F.Shelf.files c.args.shelf.now in
-    let rose = Rose (g.F.Shelf.faults c.args.shelf.now) (g.F.Shelf.faults c.args.shelf.now) in
-    subst (λ (r : Result Verdict CheckFault). Answers c.args.ex.now c.args.sheet.now files c.args.name.now rose r)
-    (sym c.not_opened.ensures)
-    (opening_answer c.args.ex.now c.args.sheet.now files c.args.name.now rose First c.args.head c.args.pieces
-    c.in-Err.fault tt c.requires.started c.in-Err.ensures.fault)
+    let name = c.args.name.now in
+    let told = shelved files (g.F.Shelf.faults c.args.shelf.now) (g.F.Shelf.given c.args.shelf.now) in
+    let promised = ServesWhole (g.F.Shelf.serves c.args.shelf.now) name 1073741824 in
+    let asked : Asked = record { exercise = c.args.ex.now; sheet = c.args.sheet.now } in
+    let offset = c.args.pieces.offset in
+    let fault = c.in-Err.fault in
+    subst
+    (λ (r : Result Verdict CheckFault). IsFileJudged asked name promised told (shelved told.files told.faults (told.given + offset)) r)
+    (sym c.not_filled.ensures)
+    (unread asked name promised told offset (unfilled fault) c.requires.limit
+    (unfilled_answer asked.exercise asked.sheet files name (Rose told.faults told.faults) fault c.in-Err.ensures.wide)
+    (unfilled_served fault))
 
 pub returns-in-Err-clause-narrow : goal.returns-in-Err-clause-narrow
-returns-in-Err-clause-narrow g c =
-    rw c.not_opened.ensures (unopened_narrow c.args.ex.now c.args.sheet.now c.args.head c.in-Err.fault
-    c.in-Err.ensures.fault)
+returns-in-Err-clause-narrow g c = rw c.not_filled.ensures (unfilled_narrow c.args.ex.now c.in-Err.fault)
+
+pub returns-in-Err-open-clause-judged : goal.returns-in-Err-open-clause-judged
+returns-in-Err-open-clause-judged g c =
+    let files = g.F.Shelf.files c.args.shelf.now in
+    let name = c.args.name.now in
+    let told = shelved files (g.F.Shelf.faults c.args.shelf.now) (g.F.Shelf.given c.args.shelf.now) in
+    let promised = ServesWhole (g.F.Shelf.serves c.args.shelf.now) name 1073741824 in
+    let asked : Asked = record { exercise = c.args.ex.now; sheet = c.args.sheet.now } in
+    let offset = c.args.pieces.offset in
+    let fault = c.in-Err-open.fault in
+    subst
+    (λ (r : Result Verdict CheckFault). IsFileJudged asked name promised told (shelved told.files told.faults (told.given + offset)) r)
+    (sym c.not_opened.ensures)
+    (unread asked name promised told offset (unopened fault) c.requires.limit
+    (opening_answer asked.exercise asked.sheet files name (Rose told.faults told.faults) First c.args.head c.args.pieces fault
+    tt c.requires.started c.in-Err-open.ensures.fault) (unopened_served fault))
+
+pub returns-in-Err-open-clause-narrow : goal.returns-in-Err-open-clause-narrow
+returns-in-Err-open-clause-narrow g c =
+    rw c.not_opened.ensures (unopened_narrow c.args.ex.now c.args.sheet.now c.args.head c.in-Err-open.fault
+    c.in-Err-open.ensures.fault)
 
 pub judge_claims-requires-clause-opened : goal.judge_claims-requires-clause-opened
 judge_claims-requires-clause-opened g c =
@@ -43,25 +70,25 @@ pub judge_claims-requires-clause-fresh : goal.judge_claims-requires-clause-fresh
 judge_claims-requires-clause-fresh g c =
     subst (λ (k : Checking Asked Opening (List (List Cell))). k ≡ opened_at k.asked k.head []) (sym c.in-Ok-open.ensures.opened) refl
 
--- ---- how much is read
-
-pub returns-in-Err-clause-near : goal.returns-in-Err-clause-near
-returns-in-Err-clause-near g c = each_verdict _ c.not_opened.result (λ it. inl (omega (arith, c.requires.limit)))
-
-pub returns-clause-near : goal.returns-clause-near
-returns-clause-near g c =
-    let asked : Asked = record { exercise = c.args.ex.now; sheet = c.args.sheet.now } in
-    let opening : Opening = record { head = c.args.head; stated = Numbers None } in
+pub returns-clause-judged : goal.returns-clause-judged
+returns-clause-judged g c =
     let files = g.F.Shelf.files c.args.shelf.now in
     let name = c.args.name.now in
-    let before = g.F.Shelf.given c.args.shelf.now in
-    let past = g.F.Shelf.given c.judge_claims.new.shelf in
-    let offset = c.behind.result.offset in
-    IfOk-weaker c.judge_claims.result _ _
-    (λ it near. near_moved (setting_subject asked) opening files name files before before (past + offset)
-    (past + c.args.pieces.offset) it refl
-    (λ read few. omega (arith, few, ap (λ (r : Reading). r.offset) c.behind.ensures)) near)
+    let told = shelved files (g.F.Shelf.faults c.args.shelf.now) (g.F.Shelf.given c.args.shelf.now) in
+    let promised = ServesWhole (g.F.Shelf.serves c.args.shelf.now) name 1073741824 in
+    let asked : Asked = record { exercise = c.args.ex.now; sheet = c.args.sheet.now } in
+    let opening : Opening = record { head = c.args.head; stated = Numbers None } in
+    let after = c.judge_claims.new.shelf in
+    let result = c.judge_claims.result in
+    let since = λ (n : ℕ). shelved (g.F.Shelf.files after) (g.F.Shelf.faults after) (g.F.Shelf.given after + n) in
+    behind_front asked name promised opening told (since c.args.pieces.offset) result
+    (subst (λ (n : ℕ). AreClaimsJudged asked opening name promised told (since n) result)
+    (ap (λ (r : Reading). r.offset) c.behind.ensures)
     (subst
-    (λ (k : Checking Asked Opening (List (List Cell))). IfOk c.judge_claims.result
-    (ReadsNear (setting_subject k.asked) k.head files name before (past + offset)))
-    c.in-Ok-open.ensures.opened c.judge_claims.ensures.near)
+    (λ (k : Checking Asked Opening (List (List Cell))).
+    AreClaimsJudged k.asked k.head name promised told (since c.behind.result.offset) result)
+    c.in-Ok-open.ensures.opened c.judge_claims.ensures))
+
+pub returns-clause-narrow : goal.returns-clause-narrow
+returns-clause-narrow g c =
+    each_verdict (λ it. AreNarrow c.args.ex.now) c.judge_claims.result (λ it. c.in-Ok.ensures.narrow)

@@ -1,11 +1,13 @@
 use Rattle.std.proofs.Common.{◌≡◌, ◌+◌, [], Err, List, Result, length, map, refl, sym, ap, subst, ◌∙◌, arith}
-use Rattle.std.specs.Prelude.{IfOk}
 use Rattle.std.specs.List.{AllByRecursion}
 use Rattle.std.proofs.lemmas.List.{length-map}
 use Rattle.std.proofs.lemmas.Result.{err_from_is_err_and}
-use Rattle.cert_check.specs.Answers.{Answers}
+use Rattle.cert_check.specs.Judged.{AreClaimsJudged, shelved}
+use Rattle.cert_check.specs.Listed.{unwoven}
 use Rattle.cert_check.specs.Settings.{Asked, IsOpeningText, Lists, Opening, setting_subject}
 use Rattle.cert_check.specs.declared.checking.CheckFault.{CheckFault}
+use Rattle.cert_check.proofs.AnswerLemmas.{unwoven_served}
+use Rattle.cert_check.proofs.JudgedLemmas.{unread_fault, unread_memory}
 use Rattle.cert_check.proofs.PricedLemmas.{are_for, few_stated, floors_stated, has_tails, is_case, unwoven_answer}
 use Rattle.cert_file.specs.Checking.{Checking, opened_at}
 use Rattle.cert_file.specs.Nearness.{ReadsNear}
@@ -17,6 +19,7 @@ use Rattle.floor_tables.specs.Tables.{AreNarrow, Task}
 use Rattle.fux_grid.specs.declared.exercise.Exercise.{Exercise}
 use Rattle.fux_grid.specs.Exercises.{IsValid}
 use Rattle.fux_port.specs.Counts.{Rose}
+use Rattle.fux_port.specs.Promises.{ServesWhole}
 use Rattle.penalty_sheet.specs.declared.sheet.Sheet.{Sheet}
 use Rattle.price_check.proofs.LargeLists.{told_large}
 use Rattle.price_check.specs.declared.floors.ListFloor.{ListFloor}
@@ -26,6 +29,8 @@ use Rattle.price_check.specs.Woven.{AreOf, list_priced}
 use Rattle.price_check.specs.declared.stated.OwnList.{OwnList}
 use Rattle.price_check.specs.Owned.{AreKeys, IsFit, list_owned}
 use Rattle.price_check.specs.Stated.{AreDue, AreStated}
+use Rattle.price_check.specs.Statements.{HasLargeStated}
+use Rattle.priced_paths.specs.declared.states.WebFault.TheVariants.{TooLarge}
 use Rattle.price_check.proofs.Fit.{lists_fit}
 use Rattle.price_check.proofs.Keys.{lists_have_keys}
 use Rattle.price_text.specs.PriceLines.{line_of}
@@ -52,23 +57,61 @@ webs_of-requires g c = record {
   all = subst (AreOf c.args.space.now) (sym c.deref-2.ensures.value) c.in_ok-lists.ensures.space;
 }
 
-pub returns-in_err-webs-clause-answers : goal.returns-in_err-webs-clause-answers
-returns-in_err-webs-clause-answers g c =
+pub returns-in_err-own : goal.returns-in_err-own
+returns-in_err-own g c =
+    unread_memory _ _ _ _ (shelved _ _ _) c.args.reader.offset (omega arith) c.from_residual.result c.from_residual.ensures.1
+
+pub returns-in_err-lists : goal.returns-in_err-lists
+returns-in_err-lists g c =
+    unread_memory _ _ _ _ (shelved _ _ _) c.args.reader.offset (omega arith) c.from_residual-in_err-lists.result c.from_residual-in_err-lists.ensures.1
+
+pub returns-in_err-webs : goal.returns-in_err-webs
+returns-in_err-webs g c =
     let files = g.F.Shelf.files c.args.shelf.now in
     let name = c.args.name.now in
-    let rose = Rose (g.F.Shelf.faults c.args.shelf.now) (g.F.Shelf.faults c.args.shelf.now) in
+    let told = shelved files (g.F.Shelf.faults c.args.shelf.now) (g.F.Shelf.given c.args.shelf.now) in
+    let promised = ServesWhole (g.F.Shelf.serves c.args.shelf.now) name 1073741824 in
     let ex = c.args.space.now.exercise in
     let sheet = c.args.space.now.sheet in
-    let told = err_from_is_err_and c.from_residual-in_err-webs.result c.from_residual-in_err-webs.ensures.1 in
-    subst (λ (r : Result Verdict CheckFault). Answers ex sheet files name rose r) (sym (told.1 ∙ ap Err told.2))
-    (unwoven_answer ex sheet files name rose c.args.head.now (map line_of c.args.lines.now) c.args.reader
-    c.requires.opened c.in_err-webs.field-0.0 c.requires.front (λ fault.
-    told_large c.args.space.now (map line_of c.args.lines.now) c.in_ok-own.own.items c.in_ok-lists.lists.items
-    c.deref-2.result.now c.deref-2.ensures.value
-    (subst (λ (s : Sheet). AreStated s (map line_of c.args.lines.now) (map list_owned c.in_ok-own.own.items))
-    c.sheet-sheet.ensures c.in_ok-own.ensures)
+    let asked : Asked = record { exercise = ex; sheet = sheet } in
+    let lines = map line_of c.args.lines.now in
+    let opening : Opening = record { head = c.args.head.now; stated = Lists lines } in
+    let offset = c.args.reader.offset in
+    let rose = Rose told.faults told.faults in
+    let fault = c.in_err-webs.field-0.0 in
+    let wants = err_from_is_err_and c.from_residual-in_err-webs.result c.from_residual-in_err-webs.ensures.1 in
+    let large : fault ≡ TooLarge → HasLargeStated ex sheet lines = λ is.
+    told_large c.args.space.now lines c.in_ok-own.own.items c.in_ok-lists.lists.items c.deref-2.result.now
+    c.deref-2.ensures.value
+    (subst (λ (s : Sheet). AreStated s lines (map list_owned c.in_ok-own.own.items)) c.sheet-sheet.ensures
+    c.in_ok-own.ensures)
     (c.in_ok-lists.ensures.lists ∙ ap (map list_owned) c.deref.ensures.value) c.in_ok-lists.ensures.space
-    (c.webs_of.ensures.large (c.in_err-webs.was ∙ ap Err fault))))
+    (c.webs_of.ensures.large (c.in_err-webs.was ∙ ap Err is)) in
+    subst
+    (λ (r : Result Verdict CheckFault).
+    AreClaimsJudged asked opening name promised told (shelved told.files told.faults (told.given + offset)) r)
+    (sym (wants.1 ∙ ap Err wants.2))
+    (unread_fault asked name promised (ReadsNear (setting_subject asked) opening files name) told offset (omega arith)
+    (unwoven fault)
+    (unwoven_answer ex sheet files name rose c.args.head.now lines c.args.reader c.requires.opened fault c.requires.front
+    large)
+    (unwoven_served fault))
+
+pub returns-in_err-numbers : goal.returns-in_err-numbers
+returns-in_err-numbers g c =
+    unread_memory _ _ _ _ (shelved _ _ _) c.args.reader.offset (omega arith) c.from_residual-in_err-numbers.result c.from_residual-in_err-numbers.ensures.1
+
+pub returns-in_err-floors : goal.returns-in_err-floors
+returns-in_err-floors g c =
+    unread_memory _ _ _ _ (shelved _ _ _) c.args.reader.offset (omega arith) c.from_residual-in_err-floors.result c.from_residual-in_err-floors.ensures.1
+
+pub returns-in_err-tables : goal.returns-in_err-tables
+returns-in_err-tables g c =
+    unread_memory _ _ _ _ (shelved _ _ _) c.args.reader.offset (omega arith) c.from_residual-in_err-tables.result c.from_residual-in_err-tables.ensures.1
+
+pub returns-in_err-checker : goal.returns-in_err-checker
+returns-in_err-checker g c =
+    unread_memory _ _ _ _ (shelved _ _ _) c.args.reader.offset (omega arith) c.from_residual-in_err-checker.result c.from_residual-in_err-checker.ensures.1
 
 pub list_numbers-requires : goal.list_numbers-requires
 list_numbers-requires g c = (
@@ -166,39 +209,31 @@ judge_claims-requires-clause-opened g c =
     (subst (λ (e : Exercise). IsOpened (IsOpeningText e) files name (record { head = c.args.head.now; stated = Lists lines }) reader)
     (sym c.exercise-exercise.ensures.value) c.requires.opened))
 
-pub returns-clause-answers : goal.returns-clause-answers
-returns-clause-answers g c =
+pub returns : goal.returns
+returns g c =
     let files = g.F.Shelf.files c.args.shelf.now in
     let name = c.args.name.now in
-    let rose = Rose (g.F.Shelf.faults c.args.shelf.now) (g.F.Shelf.faults c.judge_claims.new.shelf) in
-    let result = c.judge_claims.result in
-    subst (λ (e : Exercise). Answers e c.args.space.now.sheet files name rose result) c.exercise-exercise.ensures.value
-    (subst (λ (s : Sheet). Answers c.exercise-exercise.result.now s files name rose result) c.sheet-sheet.ensures
-    (subst (λ (s : Sharp). Answers s.case.exercise s.case.sheet files name rose result) c.new-it.ensures
-    (subst (λ (k : Checking Asked Opening (List (List Cell))). Answers k.asked.exercise k.asked.sheet files name rose result)
-    c.in_ok-checker.ensures c.judge_claims.ensures.answers)))
-
-pub returns-clause-near : goal.returns-clause-near
-returns-clause-near g c =
-    let files = g.F.Shelf.files c.args.shelf.now in
-    let name = c.args.name.now in
-    let before = g.F.Shelf.given c.args.shelf.now in
-    let past = g.F.Shelf.given c.judge_claims.new.shelf + c.args.reader.offset in
-    let result = c.judge_claims.result in
+    let told = shelved files (g.F.Shelf.faults c.args.shelf.now) (g.F.Shelf.given c.args.shelf.now) in
+    let promised = ServesWhole (g.F.Shelf.serves c.args.shelf.now) name 1073741824 in
+    let ex = c.args.space.now.exercise in
+    let sheet = c.args.space.now.sheet in
+    let asked : Asked = record { exercise = ex; sheet = sheet } in
     let lines = map line_of c.args.lines.now in
-    let head = c.args.head.now in
+    let opening : Opening = record { head = c.args.head.now; stated = Lists lines } in
+    let offset = c.args.reader.offset in
+    let after = shelved (g.F.Shelf.files c.judge_claims.new.shelf) (g.F.Shelf.faults c.judge_claims.new.shelf)
+    (g.F.Shelf.given c.judge_claims.new.shelf + offset) in
+    let result = c.judge_claims.result in
     subst
-    (λ (e : Exercise). IfOk result (ReadsNear (setting_subject record { exercise = e; sheet = c.args.space.now.sheet })
-    (record { head = head; stated = Lists lines }) files name before past))
+    (λ (e : Exercise). AreClaimsJudged (record { exercise = e; sheet = sheet }) opening name promised told after result)
     c.exercise-exercise.ensures.value
     (subst
-    (λ (s : Sheet). IfOk result (ReadsNear (setting_subject record { exercise = c.exercise-exercise.result.now; sheet = s })
-    (record { head = head; stated = Lists lines }) files name before past))
+    (λ (s : Sheet). AreClaimsJudged (record { exercise = c.exercise-exercise.result.now; sheet = s }) opening name promised told
+    after result)
     c.sheet-sheet.ensures
     (subst
-    (λ (s : Sharp). IfOk result (ReadsNear (setting_subject record { exercise = s.case.exercise; sheet = s.case.sheet })
-    (record { head = s.case.head; stated = Lists s.lines }) files name before past))
+    (λ (s : Sharp). AreClaimsJudged (record { exercise = s.case.exercise; sheet = s.case.sheet })
+    (record { head = s.case.head; stated = Lists s.lines }) name promised told after result)
     c.new-it.ensures
-    (subst
-    (λ (k : Checking Asked Opening (List (List Cell))). IfOk result (ReadsNear (setting_subject k.asked) k.head files name before past))
-    c.in_ok-checker.ensures c.judge_claims.ensures.near)))
+    (subst (λ (k : Checking Asked Opening (List (List Cell))). AreClaimsJudged k.asked k.head name promised told after result)
+    c.in_ok-checker.ensures c.judge_claims.ensures)))
