@@ -1,5 +1,6 @@
-use Rattle.std.proofs.Common.{◌≡◌, ◌⊎◌, ℕ, ◌≤◌, length, take, drop, sym, ap, subst, ◌∙◌, true≢false, arith}
+use Rattle.std.proofs.Common.{◌≡◌, ◌⊎◌, ℕ, ◌≤◌, Err, inr, refl, length, take, drop, sym, ap, subst, ◌∙◌, true≢false, arith}
 use Rattle.std.proofs.lemmas.List.{length-take-le}
+use Rattle.std.proofs.lemmas.Result.{err_from_is_err_and}
 use Rattle.fux_port.specs.Counts.{Rose}
 use Rattle.cert_text.specs.declared.answers.CertFault.TheVariants.{CertHead, Memory}
 use Rattle.cert_text.specs.declared.answers.Form.TheVariants.{Third}
@@ -9,6 +10,21 @@ use Rattle.cert_check.specs.Starts.{IsStarted}
 use Rattle.cert_file.proofs.FileLemmas.{first_known, front_left, front_written}
 use Rattle.cert_check.proofs.StartLemmas.{head_stops, started}
 use Rattle.cert_check.proofs.starting.start.Goals as goal
+
+pub returns-in_err-piece : goal.returns-in_err-piece
+returns-in_err-piece g c =
+    let it = err_from_is_err_and c.from_residual.result c.from_residual.ensures.1 in
+    record {
+      starts = rw (it.1, it.2) tt;
+      missing = λ absent. inr (it.1 ∙ ap Err it.2);
+      served = λ all. rw (it.1, it.2) (λ e. cc);
+      serving = λ name offset promised. promised;
+      little = omega arith;
+      told = rw it.1 tt;
+      within = rw it.1 tt;
+      files = refl;
+      faults = omega arith;
+    }
 
 pub returns-in-Ok-clause-starts : goal.returns-in-Ok-clause-starts
 returns-in-Ok-clause-starts g c =
@@ -73,3 +89,61 @@ returns-in-Err-clause-missing g c = λ absent.
     let size : length c.deref_mut.result.now
     ≡ longest_piece = omega (arith, ap length c.deref_mut.ensures.value, c.in_ok-piece.ensures.len) in
     absurd (true≢false (sym (c.in_ok-count.ensures.missing (omega (arith, size)) absent)))
+
+pub returns-in_err-count-clause-serving : goal.returns-in_err-count-clause-serving
+returns-in_err-count-clause-serving g c = c.fill.ensures.serving
+
+pub returns-in_err-count-clause-files : goal.returns-in_err-count-clause-files
+returns-in_err-count-clause-files g c = c.fill.ensures.files
+
+pub returns-in_err-count-clause-faults : goal.returns-in_err-count-clause-faults
+returns-in_err-count-clause-faults g c = c.fill.ensures.faults
+
+pub returns-in_err-count-clause-little : goal.returns-in_err-count-clause-little
+returns-in_err-count-clause-little g c =
+    omega (arith, c.fill.ensures.little, ap length c.deref_mut.ensures.value, c.in_ok-piece.ensures.len)
+
+pub returns-in-Ok-clause-serving : goal.returns-in-Ok-clause-serving
+returns-in-Ok-clause-serving g c = c.fill.ensures.serving
+
+pub returns-in-Ok-clause-files : goal.returns-in-Ok-clause-files
+returns-in-Ok-clause-files g c = c.fill.ensures.files
+
+pub returns-in-Ok-clause-faults : goal.returns-in-Ok-clause-faults
+returns-in-Ok-clause-faults g c = c.fill.ensures.faults
+
+pub returns-in-Ok-clause-little : goal.returns-in-Ok-clause-little
+returns-in-Ok-clause-little g c =
+    omega (arith, c.fill.ensures.little, ap length c.deref_mut.ensures.value, c.in_ok-piece.ensures.len)
+
+pub returns-in-Err-clause-serving : goal.returns-in-Err-clause-serving
+returns-in-Err-clause-serving g c = c.fill.ensures.serving
+
+pub returns-in-Err-clause-files : goal.returns-in-Err-clause-files
+returns-in-Err-clause-files g c = c.fill.ensures.files
+
+pub returns-in-Err-clause-faults : goal.returns-in-Err-clause-faults
+returns-in-Err-clause-faults g c = c.fill.ensures.faults
+
+pub returns-in-Err-clause-little : goal.returns-in-Err-clause-little
+returns-in-Err-clause-little g c =
+    omega (arith, c.fill.ensures.little, ap length c.deref_mut.ensures.value, c.in_ok-piece.ensures.len)
+
+pub returns-in-Ok-clause-told : goal.returns-in-Ok-clause-told
+returns-in-Ok-clause-told g c = omega (arith, c.in_ok-count.ensures.told, ap (λ (p : Piece). p.offset) c.new.ensures)
+
+pub returns-in-Ok-clause-within : goal.returns-in-Ok-clause-within
+returns-in-Ok-clause-within g c =
+    omega (
+      arith,
+      c.in_ok-count.ensures.fits,
+      ap length c.deref_mut.ensures.value,
+      c.in_ok-piece.ensures.len,
+      ap (λ (p : Piece). p.offset) c.new.ensures,
+    )
+
+pub returns-in-Ok-clause-served : goal.returns-in-Ok-clause-served
+returns-in-Ok-clause-served g c = λ all. tt
+
+pub returns-in-Err-clause-served : goal.returns-in-Err-clause-served
+returns-in-Err-clause-served g c = λ all e. cc
