@@ -1,5 +1,5 @@
 -- The web of what is kept of the settings of an exercise (`IsWoven`), and what a try to find the
--- best of them answers (`IsTry`).
+-- best of them answers (`IsTry`), or a search that has the whole budget (`IsSearch`).
 use Rattle.std.specs.Prelude.{◌≤◌, ℕ, []}
 use Rattle.fux_grid.specs.declared.exercise.Exercise.{Exercise}
 use Rattle.fux_grid.specs.Exercises.{columns_in}
@@ -12,8 +12,8 @@ use Rattle.priced_floors.specs.Kept.{kept_of, step_of}
 use Rattle.priced_floors.specs.PricedLaws.{breadth_of}
 use Rattle.floor_graphs.specs.Sameness.{AgreesWithAnswers}
 use Rattle.species_space.specs.Paths.{live_at}
-use Rattle.tree_search.specs.Answer.{BoundsLeaves, HasNoLeaf, IsFirstLeast}
-use Rattle.tree_search.specs.Outcomes.{IfFound, IfSpent, OnNothing}
+use Rattle.tree_search.specs.Answer.{BoundsLeaves, HasNoLeaf, IsFirstLeast, IsOverBudget}
+use Rattle.tree_search.specs.Outcomes.{IfFound, IfSpent, IsSpent, OnNothing}
 use Rattle.tree_search.specs.declared.outcome.Outcome.{Outcome}
 
 abbrev pub IsWoven : Exercise → Sheet → Keeps → Web Kept → Type 0
@@ -27,3 +27,8 @@ pub record IsTry (ex : Exercise) (sheet : Sheet) (known : ℕ) (outcome : Outcom
   pub bound : IfSpent outcome (BoundsLeaves (live_at ex sheet) (columns_in ex))
   pub kept : IfSpent outcome (λ least. known ≤ least)
   pub agrees : AgreesWithAnswers (live_at ex sheet) (columns_in ex) outcome
+
+-- so is what is searched for within a budget, and it is spent only where that isn't enough
+pub record IsSearch (ex : Exercise) (sheet : Sheet) (known budget : ℕ) (outcome : Outcome) : Type 0 where
+  pub tried : IsTry ex sheet known outcome
+  pub over : IsSpent outcome → IsOverBudget (live_at ex sheet) (columns_in ex) budget

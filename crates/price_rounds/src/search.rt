@@ -6,7 +6,7 @@ ghost use Rattle.floor_graphs.specs.Sameness.{AgreesWithAnswers};
 ghost use Rattle.floor_graphs.specs.declared.bounds.TheConstants.{FIRST_BUDGET};
 ghost use Rattle.priced_floors.specs.Charges.{AreFairCharges, AreSmallCharges};
 ghost use Rattle.priced_floors.specs.declared.charges.TheConstants.{CASES, MOST_CHARGE, SCALE};
-ghost use Rattle.price_rounds.specs.Woven.{IsTry, IsWoven};
+ghost use Rattle.price_rounds.specs.Woven.{IsSearch, IsTry, IsWoven};
 ghost use Rattle.species_space.specs.Paths.{live_at};
 ghost use Rattle.tree_search.specs.Answer.{BoundsLeaves, HasNoLeaf, IsFirstLeast, IsOverBudget};
 ghost use Rattle.tree_search.specs.Outcomes.{IfFound, IfSpent, IsSpent, OnNothing};
@@ -94,18 +94,7 @@ fn try_woven(
     requires known { BoundsLeaves (live_at space.now.exercise space.now.sheet)
         (columns_in space.now.exercise) known }
     requires web { IsWoven space.now.exercise space.now.sheet woven.now.keeps woven.now.web }
-    ensures found { IfOk result
-        (λ outcome. IfFound outcome (IsFirstLeast (live_at space.now.exercise space.now.sheet)
-        (columns_in space.now.exercise))) }
-    ensures nothing { IfOk result
-        (λ outcome. OnNothing outcome (HasNoLeaf (live_at space.now.exercise space.now.sheet)
-        (columns_in space.now.exercise))) }
-    ensures bound { IfOk result
-        (λ outcome. IfSpent outcome (BoundsLeaves (live_at space.now.exercise space.now.sheet)
-        (columns_in space.now.exercise))) }
-    ensures kept { IfOk result (λ outcome. IfSpent outcome (λ least. known ≤ least)) }
-    ensures agrees { IfOk result (AgreesWithAnswers (live_at space.now.exercise space.now.sheet)
-        (columns_in space.now.exercise)) }
+    ensures tried { IfOk result (IsTry space.now.exercise space.now.sheet known) }
     ensures paid { OnOk result (purse.new.left ≤ purse.old.left - min budget FIRST_BUDGET) }
 {
     let keys = summit_keys(alloc, space, voice)?;
@@ -129,21 +118,7 @@ fn search_woven(
     requires known { BoundsLeaves (live_at space.now.exercise space.now.sheet)
         (columns_in space.now.exercise) known }
     requires web { IsWoven space.now.exercise space.now.sheet woven.now.keeps woven.now.web }
-    ensures found { IfOk result
-        (λ outcome. IfFound outcome (IsFirstLeast (live_at space.now.exercise space.now.sheet)
-        (columns_in space.now.exercise))) }
-    ensures nothing { IfOk result
-        (λ outcome. OnNothing outcome (HasNoLeaf (live_at space.now.exercise space.now.sheet)
-        (columns_in space.now.exercise))) }
-    ensures bound { IfOk result
-        (λ outcome. IfSpent outcome (BoundsLeaves (live_at space.now.exercise space.now.sheet)
-        (columns_in space.now.exercise))) }
-    ensures kept { IfOk result (λ outcome. IfSpent outcome (λ least. known ≤ least)) }
-    ensures over { IfOk result (λ outcome. IsSpent outcome
-        → IsOverBudget (live_at space.now.exercise space.now.sheet) (columns_in space.now.exercise)
-        budget) }
-    ensures agrees { IfOk result (AgreesWithAnswers (live_at space.now.exercise space.now.sheet)
-        (columns_in space.now.exercise)) }
+    ensures searched { IfOk result (IsSearch space.now.exercise space.now.sheet known budget) }
     ensures paid { OnOk result (purse.new.left ≤ purse.old.left - min budget FIRST_BUDGET) }
 {
     let keys = summit_keys(alloc, space, voice)?;
@@ -214,21 +189,7 @@ fn search_raised(
     requires known { BoundsLeaves (live_at space.now.exercise space.now.sheet)
         (columns_in space.now.exercise) known }
     requires web { IsWoven space.now.exercise space.now.sheet woven.now.keeps woven.now.web }
-    ensures found { IfOk result
-        (λ outcome. IfFound outcome (IsFirstLeast (live_at space.now.exercise space.now.sheet)
-        (columns_in space.now.exercise))) }
-    ensures nothing { IfOk result
-        (λ outcome. OnNothing outcome (HasNoLeaf (live_at space.now.exercise space.now.sheet)
-        (columns_in space.now.exercise))) }
-    ensures bound { IfOk result
-        (λ outcome. IfSpent outcome (BoundsLeaves (live_at space.now.exercise space.now.sheet)
-        (columns_in space.now.exercise))) }
-    ensures kept { IfOk result (λ outcome. IfSpent outcome (λ least. known ≤ least)) }
-    ensures over { IfOk result (λ outcome. IsSpent outcome
-        → IsOverBudget (live_at space.now.exercise space.now.sheet) (columns_in space.now.exercise)
-        budget) }
-    ensures agrees { IfOk result (AgreesWithAnswers (live_at space.now.exercise space.now.sheet)
-        (columns_in space.now.exercise)) }
+    ensures searched { IfOk result (IsSearch space.now.exercise space.now.sheet known budget) }
     ensures paid { OnOk result (purse.new.left ≤ purse.old.left - min budget FIRST_BUDGET) }
 {
     let part = budget.min(RAISED_BUDGET);
@@ -258,21 +219,7 @@ fn search_most(
     requires small { AreSmallCharges MOST_CHARGE plain.now }
     requires scale { plain.now.scale ≡ SCALE }
     requires few { length plain.now.summits.items ≤ CASES }
-    ensures found { IfOk result
-        (λ outcome. IfFound outcome (IsFirstLeast (live_at space.now.exercise space.now.sheet)
-        (columns_in space.now.exercise))) }
-    ensures nothing { IfOk result
-        (λ outcome. OnNothing outcome (HasNoLeaf (live_at space.now.exercise space.now.sheet)
-        (columns_in space.now.exercise))) }
-    ensures bound { IfOk result
-        (λ outcome. IfSpent outcome (BoundsLeaves (live_at space.now.exercise space.now.sheet)
-        (columns_in space.now.exercise))) }
-    ensures kept { IfOk result (λ outcome. IfSpent outcome (λ least. known ≤ least)) }
-    ensures over { IfOk result (λ outcome. IsSpent outcome
-        → IsOverBudget (live_at space.now.exercise space.now.sheet) (columns_in space.now.exercise)
-        budget) }
-    ensures agrees { IfOk result (AgreesWithAnswers (live_at space.now.exercise space.now.sheet)
-        (columns_in space.now.exercise)) }
+    ensures searched { IfOk result (IsSearch space.now.exercise space.now.sheet known budget) }
     ensures paid { OnOk result (purse.new.left ≤ purse.old.left) }
 {
     let Some(woven) = weave_most(alloc, space, plain, room_for(budget))? else {
@@ -328,21 +275,7 @@ fn search_barest(
     requires small { AreSmallCharges MOST_CHARGE plain.now }
     requires scale { plain.now.scale ≡ SCALE }
     requires few { length plain.now.summits.items ≤ CASES }
-    ensures found { IfOk result
-        (λ outcome. IfFound outcome (IsFirstLeast (live_at space.now.exercise space.now.sheet)
-        (columns_in space.now.exercise))) }
-    ensures nothing { IfOk result
-        (λ outcome. OnNothing outcome (HasNoLeaf (live_at space.now.exercise space.now.sheet)
-        (columns_in space.now.exercise))) }
-    ensures bound { IfOk result
-        (λ outcome. IfSpent outcome (BoundsLeaves (live_at space.now.exercise space.now.sheet)
-        (columns_in space.now.exercise))) }
-    ensures kept { IfOk result (λ outcome. IfSpent outcome (λ least. known ≤ least)) }
-    ensures over { IfOk result (λ outcome. IsSpent outcome
-        → IsOverBudget (live_at space.now.exercise space.now.sheet) (columns_in space.now.exercise)
-        budget) }
-    ensures agrees { IfOk result (AgreesWithAnswers (live_at space.now.exercise space.now.sheet)
-        (columns_in space.now.exercise)) }
+    ensures searched { IfOk result (IsSearch space.now.exercise space.now.sheet known budget) }
     ensures paid { OnOk result (purse.new.left ≤ purse.old.left) }
 {
     if !forgets_more(space.exercise()) {
@@ -384,21 +317,7 @@ fn search_after(
     requires small { AreSmallCharges MOST_CHARGE plain.now }
     requires scale { plain.now.scale ≡ SCALE }
     requires few { length plain.now.summits.items ≤ CASES }
-    ensures found { IfOk result
-        (λ outcome. IfFound outcome (IsFirstLeast (live_at space.now.exercise space.now.sheet)
-        (columns_in space.now.exercise))) }
-    ensures nothing { IfOk result
-        (λ outcome. OnNothing outcome (HasNoLeaf (live_at space.now.exercise space.now.sheet)
-        (columns_in space.now.exercise))) }
-    ensures bound { IfOk result
-        (λ outcome. IfSpent outcome (BoundsLeaves (live_at space.now.exercise space.now.sheet)
-        (columns_in space.now.exercise))) }
-    ensures kept { IfOk result (λ outcome. IfSpent outcome (λ least. known ≤ least)) }
-    ensures over { IfOk result (λ outcome. IsSpent outcome
-        → IsOverBudget (live_at space.now.exercise space.now.sheet) (columns_in space.now.exercise)
-        budget) }
-    ensures agrees { IfOk result (AgreesWithAnswers (live_at space.now.exercise space.now.sheet)
-        (columns_in space.now.exercise)) }
+    ensures searched { IfOk result (IsSearch space.now.exercise space.now.sheet known budget) }
     ensures paid { OnOk result (purse.new.left ≤ purse.old.left) }
 {
     match tried {
@@ -420,21 +339,7 @@ fn search_by_prices(
     requires valid { IsValid space.now.exercise }
     requires known { BoundsLeaves (live_at space.now.exercise space.now.sheet)
         (columns_in space.now.exercise) known }
-    ensures found { IfOk result
-        (λ outcome. IfFound outcome (IsFirstLeast (live_at space.now.exercise space.now.sheet)
-        (columns_in space.now.exercise))) }
-    ensures nothing { IfOk result
-        (λ outcome. OnNothing outcome (HasNoLeaf (live_at space.now.exercise space.now.sheet)
-        (columns_in space.now.exercise))) }
-    ensures bound { IfOk result
-        (λ outcome. IfSpent outcome (BoundsLeaves (live_at space.now.exercise space.now.sheet)
-        (columns_in space.now.exercise))) }
-    ensures kept { IfOk result (λ outcome. IfSpent outcome (λ least. known ≤ least)) }
-    ensures over { IfOk result (λ outcome. IsSpent outcome
-        → IsOverBudget (live_at space.now.exercise space.now.sheet) (columns_in space.now.exercise)
-        budget) }
-    ensures agrees { IfOk result (AgreesWithAnswers (live_at space.now.exercise space.now.sheet)
-        (columns_in space.now.exercise)) }
+    ensures searched { IfOk result (IsSearch space.now.exercise space.now.sheet known budget) }
     ensures paid { OnOk result (purse.new.left ≤ purse.old.left) }
 {
     let plain = plain_charges(alloc, space)?;

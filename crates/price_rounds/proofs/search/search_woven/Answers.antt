@@ -1,14 +1,15 @@
 use Rattle.std.proofs.Common.{subst}
 use Rattle.std.specs.Prelude.{IfOk}
-use Rattle.fux_grid.specs.Exercises.{columns_in}
-use Rattle.species_space.specs.Paths.{live_at}
 use Rattle.species_space.specs.declared.space.SpeciesSpace.{SpeciesSpace}
-use Rattle.tree_search.specs.Answer.{HasNoLeaf}
-use Rattle.tree_search.specs.Outcomes.{OnNothing}
+use Rattle.price_rounds.specs.Woven.{IsSearch}
+use Rattle.price_rounds.proofs.Searches.{searched, tried}
 use Rattle.price_rounds.proofs.search.search_woven.Goals as goal
 
-pub returns-clause-nothing : goal.returns-clause-nothing
-returns-clause-nothing c =
-    let P : SpeciesSpace → Type 0 = λ s.
-    IfOk c.search_web.result (λ outcome. OnNothing outcome (HasNoLeaf (live_at s.exercise s.sheet) (columns_in s.exercise))) in
-    subst P c.in_ok-priced.ensures.space c.search_web.ensures.nothing
+pub returns-clause-searched : goal.returns-clause-searched
+returns-clause-searched c =
+    let first = c.search_web.ensures in
+    let result = c.search_web.result in
+    subst (λ (s : SpeciesSpace). IfOk result (IsSearch s.exercise s.sheet c.args.known c.args.budget))
+    c.in_ok-priced.ensures.space
+    (searched _ _ c.args.known c.args.budget result
+    (tried _ _ c.args.known result first.found first.nothing first.bound first.kept first.agrees) first.over)

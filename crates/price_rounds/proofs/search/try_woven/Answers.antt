@@ -1,14 +1,12 @@
 use Rattle.std.proofs.Common.{subst}
 use Rattle.std.specs.Prelude.{IfOk}
-use Rattle.fux_grid.specs.Exercises.{columns_in}
-use Rattle.species_space.specs.Paths.{live_at}
 use Rattle.species_space.specs.declared.space.SpeciesSpace.{SpeciesSpace}
-use Rattle.tree_search.specs.Answer.{HasNoLeaf}
-use Rattle.tree_search.specs.Outcomes.{OnNothing}
+use Rattle.price_rounds.specs.Woven.{IsTry}
+use Rattle.price_rounds.proofs.Searches.{tried}
 use Rattle.price_rounds.proofs.search.try_woven.Goals as goal
 
-pub returns-clause-nothing : goal.returns-clause-nothing
-returns-clause-nothing c =
-    let P : SpeciesSpace → Type 0 = λ s.
-    IfOk c.try_web.result (λ outcome. OnNothing outcome (HasNoLeaf (live_at s.exercise s.sheet) (columns_in s.exercise))) in
-    subst P c.in_ok-priced.ensures.space c.try_web.ensures.nothing
+pub returns-clause-tried : goal.returns-clause-tried
+returns-clause-tried c =
+    let first = c.try_web.ensures in
+    subst (λ (s : SpeciesSpace). IfOk c.try_web.result (IsTry s.exercise s.sheet c.args.known)) c.in_ok-priced.ensures.space
+    (tried _ _ c.args.known c.try_web.result first.found first.nothing first.bound first.kept first.agrees)
