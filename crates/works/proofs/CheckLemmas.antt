@@ -1,9 +1,12 @@
 -- What `check` makes of its files (`checked_said`), and that no certificate whose verdict is told
 -- is missing (`written_is_there`, `part_is_there`).
-use Rattle.std.proofs.Common.{◌≡◌, ◌⊎◌, ℕ, zero, suc, ◌<◌, List, [], ◌∷◌, Contains, Option, Result, Ok, Err, get_or, inl, inr, refl, ap, sym, subst, ◌∙◌, arith}
+use Rattle.std.proofs.Common.{◌≡◌, ◌≢◌, ◌⊎◌, ℕ, zero, suc, ◌<◌, List, [], ◌∷◌, Contains, Option, Result, Ok, Err, get_or, inl, inr, refl, ap, sym, subst, ◌∙◌, arith}
 use Rattle.cert_file.specs.Readings.{MayBe}
 use Rattle.cert_text.specs.declared.answers.CertHead.{CertHead}
+use Rattle.cert_check.specs.Answers.{Answers}
 use Rattle.cert_check.specs.Settings.{HasLargeLists, IsVerdictOn}
+use Rattle.cert_check.specs.declared.checking.CheckFault.{CheckFault}
+use Rattle.cert_check.specs.declared.checking.CheckFault.TheVariants as fault
 use Rattle.cert_check.proofs.RefusedLemmas.{one_verdict}
 use Rattle.cert_file.proofs.TextLemmas.{such_of}
 use Rattle.cert_check.specs.Settings as cert
@@ -27,7 +30,8 @@ use Rattle.cantus_check.specs.Answers.{IsVerdictOn as IsCantusVerdict}
 use Rattle.command_words.specs.declared.command.Wanted.{Wanted}
 use Rattle.works.specs.CantusChecked.{ChecksCantusBy}
 use Rattle.works.specs.Invented.{plan_of}
-use Rattle.works.specs.Checked.{AnswersWithin, IsAccepted, IsChecked, IsOnlyVerdict, Judges, RefusesChecking, told}
+use Rattle.works.specs.Blame.{IsReadWithin}
+use Rattle.works.specs.Checked.{AnswersWithin, Checks, IsAccepted, IsChecked, IsOnlyVerdict, Judges, RefusesChecking, told, unmade_by}
 use Rattle.class_marker.specs.Lists.{listed_names}
 use Rattle.class_marker.specs.Markings.{IsContent}
 use Rattle.fux_text.proofs.ReadTexts.{texts-faultless}
@@ -89,6 +93,24 @@ module _ (ex : Exercise) (sheet : Sheet) (files : Files) (name : List ℕ) (outp
       each = λ bytes head has is. e ∙ ap told (accepts head bytes has is);
     };
   }
+
+-- ---- why no verdict is told
+
+-- where no menu is too wide, what a file that gets none stops with is as it should be
+pub unchecked : (ex : Exercise) (sheet : Sheet) (files : Files) (name : List ℕ) (rose : Type 0) (why : CheckFault)
+    → IsNarrow ex → Answers ex sheet files name rose (Err why)
+    → AnswersWithin (Checks files name sheet ex) (IsNarrow ex × (rose ⊎ IsMissing files name)) (Err (unmade_by why))
+unchecked ex sheet files name rose fault.Unreadable narrow told = (narrow, told)
+unchecked ex sheet files name rose (fault.TooWide place count) narrow told = told
+unchecked ex sheet files name rose fault.TooLarge narrow told = (narrow, told)
+unchecked ex sheet files name rose fault.Memory narrow told = tt
+
+-- and no shelf is blamed by it that serves the file
+pub unmade_served : (why : CheckFault) → why ≢ fault.Unreadable → IsReadWithin (unmade_by why)
+unmade_served fault.Unreadable served = served refl
+unmade_served (fault.TooWide place count) served = tt
+unmade_served fault.TooLarge served = tt
+unmade_served fault.Memory served = tt
 
 -- ---- the file of a verdict isn't missing
 

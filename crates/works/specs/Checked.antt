@@ -4,6 +4,8 @@ use Rattle.cert_law.specs.Certificates.{Holds}
 use Rattle.cert_file.specs.Readings.{Files, MayBe}
 use Rattle.cert_text.specs.declared.answers.CertHead.{CertHead}
 use Rattle.cert_check.specs.Settings.{HasLargeLists, IsCertificateText, IsVerdictOn, accepted_of}
+use Rattle.cert_check.specs.declared.checking.CheckFault.{CheckFault}
+use Rattle.cert_check.specs.declared.checking.CheckFault.TheVariants as check
 use Rattle.cert_file.specs.declared.verdict.Verdict.{Verdict as CertVerdict}
 use Rattle.cert_file.specs.declared.verdict.Verdict.TheVariants.{Accepted, Claim, Text}
 use Rattle.cert_file.specs.Verdicts.{verdict_line}
@@ -12,7 +14,7 @@ use Rattle.fux_port.specs.Counts.{Rose}
 use Rattle.fux_port.specs.Files.{HasFile, IsMissing}
 use Rattle.penalty_sheet.specs.declared.sheet.Sheet.{Sheet}
 use Rattle.works.specs.declared.refusal.Refusal.{Refusal}
-use Rattle.works.specs.declared.refusal.Refusal.TheVariants.{LargeGraph}
+use Rattle.works.specs.declared.refusal.Refusal.TheVariants.{LargeGraph, TooWide}
 use Rattle.works.specs.declared.work.Output.{Output}
 use Rattle.works.specs.declared.work.Stop.TheVariants.{Refused, Memory}
 use Rattle.works.specs.declared.work.Unmade.{Unmade}
@@ -31,6 +33,13 @@ verdict_on (Text fault) = Unfavorable
 -- the output that tells it: its line
 abbrev pub told : CertVerdict → Output
 told said = record { verdict = verdict_on said; bytes = verdict_line said }
+
+-- why there is no output, where the file gets no verdict
+abbrev pub unmade_by : CheckFault → Unmade
+unmade_by check.Unreadable = Unreadable
+unmade_by (check.TooWide place count) = Stopped (Refused (TooWide place count))
+unmade_by check.TooLarge = Stopped (Refused LargeGraph)
+unmade_by check.Memory = Stopped Memory
 
 -- the verdict is that on the certificate in the file of this name: the file is the text of a valid
 -- certificate whose head then holds, or the verdict tells the first thing that is wrong with it

@@ -4,7 +4,7 @@ ghost use Rattle.std.specs.Prelude.{◌≡◌, ◌+◌, ◌≤◌, IfErr, IfOk};
 ghost use Rattle.fux_grid.specs.Exercises.{IsValid};
 ghost use Rattle.fux_port.specs.Promises.{ServesWhole};
 ghost use Rattle.works.specs.Blame.{IsReadWithin};
-ghost use Rattle.works.specs.Checked.{ChecksOn, told, verdict_on};
+ghost use Rattle.works.specs.Checked.{ChecksOn, told, unmade_by, verdict_on};
 ghost use Rattle.works.specs.Near.{ChecksNear};
 
 use crate::refusal::Refusal;
@@ -44,12 +44,21 @@ pub fn check<F: Shelf, R: Threads + Sync>(
     }
     match check_file(rt, alloc, exercise, sheet, shelf, certificate) {
         Ok(verdict) => Ok(output_on(alloc, verdict)?),
-        Err(CheckFault::Unreadable) => Err(Unmade::Unreadable),
-        Err(CheckFault::TooWide { place, count }) => {
-            Err(Unmade::Stopped(Stop::Refused(Refusal::TooWide { place, count })))
+        Err(fault) => Err(unmade_by(fault)),
+    }
+}
+
+/// Why there is no output, where the file of a certificate gets no verdict.
+fn unmade_by(fault: CheckFault) -> Unmade
+    ensures { result ≡ unmade_by fault }
+{
+    match fault {
+        CheckFault::Unreadable => Unmade::Unreadable,
+        CheckFault::TooWide { place, count } => {
+            Unmade::Stopped(Stop::Refused(Refusal::TooWide { place, count }))
         }
-        Err(CheckFault::TooLarge) => Err(Unmade::Stopped(Stop::Refused(Refusal::LargeGraph))),
-        Err(CheckFault::Memory) => Err(Unmade::Stopped(Stop::Memory)),
+        CheckFault::TooLarge => Unmade::Stopped(Stop::Refused(Refusal::LargeGraph)),
+        CheckFault::Memory => Unmade::Stopped(Stop::Memory),
     }
 }
 
