@@ -1,5 +1,5 @@
 -- What a command makes, from what was read of its files and what it answers to that (`made_said`),
--- and where the file of its sheet can't be read (`sheet_unread`).
+-- and where the first file (`first_unread`) or that of its sheet can't be read (`sheet_unread`).
 use Rattle.std.proofs.Common.{◌≡◌, ◌⊎◌, ℕ, Bool, List, [], ◌∷◌, Option, Some, None, Result, Ok, Err, inl, inr, refl, sym, subst, arith}
 use Rattle.fux_port.specs.Files.{IsMissing}
 use Rattle.class_marker.specs.Markings.{IsContent}
@@ -21,7 +21,7 @@ use Rattle.works.specs.Explained.{Explains}
 use Rattle.works.specs.Played.{ReadsMidi}
 use Rattle.works.specs.Endings.{IsMade, IsRefused, IsUnread, Says}
 use Rattle.works.specs.Texts.{Work}
-use Rattle.works.specs.Works.{AllMayHave, Answers, AreContents, AreRead, Files, IsRead, Makes, MakesOfText, ReadsSheetFile, Works}
+use Rattle.works.specs.Works.{AllMayHave, Answers, AreContents, AreRead, Files, IsRead, Makes, MakesOfText, Reads, ReadsSheetFile, Works}
 use Rattle.works.proofs.WorkLemmas.{not_missing}
 
 -- the bytes of files that were read
@@ -113,6 +113,20 @@ of_none files number by_sharper (Ok output) made (bytes ∷ all) content = absur
 of_none files number by_sharper (Err (stop.Refused refusal)) made (bytes ∷ all) content = absurd content
 
 -- ---- files that can't be read
+
+pub first_unread : (first : List ℕ) (names : List (List ℕ)) (files : Files) (rose : Type 0) (limit : ℕ)
+    (complaint : Complaint) (Tells : Complaint → Type 0)
+    → ((file : FileName) → IsUnread files rose (first ∷ names) (name_text file) → Tells (Unreadable file))
+    → Tells OutOfMemory → Reads limit files rose first (Err complaint) → Tells complaint
+first_unread first names files rose limit (Unreadable file) Tells unread memory known =
+    unread file record {
+      asked = (0, omega arith, sym known.0);
+      cause = elim known.1 [ inl failed ↦ inl failed | inr missing ↦ inr (inl (sym known.0, missing)) ];
+    }
+first_unread first names files rose limit OutOfMemory Tells unread memory known = memory
+first_unread first names files rose limit Usage Tells unread memory known = absurd known
+first_unread first names files rose limit (Refused said) Tells unread memory known = absurd known
+first_unread first names files rose limit Unwritable Tells unread memory known = absurd known
 
 second_missing : (files : Files) (first second file : List ℕ) (rose : Type 0) → file ≡ second
     → (IsMissing files first → ⊥)

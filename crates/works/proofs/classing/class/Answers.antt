@@ -1,4 +1,5 @@
-use Rattle.std.proofs.Common.{[], ◌∷◌, inl, inr, map, refl, subst, arith}
+use Rattle.works.specs.Endings.{IsMade}
+use Rattle.std.proofs.Common.{[], ◌∷◌, inl, inr, map, refl, subst, arith, Err}
 use Rattle.std.specs.Prelude.{string_bytes}
 use Rattle.std.proofs.lemmas.Result.{err_from_is_err_and}
 use Rattle.fux_port.specs.Counts.{Rose}
@@ -9,7 +10,17 @@ use Rattle.works.specs.TaskFiles.{names_listed}
 use Rattle.works.proofs.BlameLemmas.{blames_none, blames_so, names_kept, text_blames, whole_kept}
 use Rattle.works.proofs.ClassLemmas.{class_made, list_refused}
 use Rattle.works.proofs.LittleLemmas.{class_little, list_reads_on}
+use Rattle.works.proofs.MakeLemmas.{first_unread}
 use Rattle.works.proofs.classing.class.Goals as goal
+
+pub returns-in_err-text-clause-made : goal.returns-in_err-text-clause-made
+returns-in_err-text-clause-made g c =
+    let files = g.F.Shelf.files c.args.shelf.now in
+    let rose = Rose (g.F.Shelf.faults c.args.shelf.now) (g.F.Shelf.faults c.read_content.new.shelf) in
+    let task = class_report c.args.list.now in
+    let told = err_from_is_err_and c.from_residual.result c.from_residual.ensures.1 in
+    rw (told.1, told.2) (first_unread c.args.list.now [] files rose 65536 _
+    (λ complaint. IsMade task files rose (Err complaint)) (λ file is. inl is) tt c.in_err-text.ensures.reads)
 
 pub returns-in-Ok-clause-made : goal.returns-in-Ok-clause-made
 returns-in-Ok-clause-made g c =

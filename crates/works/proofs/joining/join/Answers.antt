@@ -7,8 +7,17 @@ use Rattle.works.specs.Endings.{IsMade}
 use Rattle.works.proofs.JoinedLemmas.{of_joining}
 use Rattle.works.specs.Blame.{IsUnserved}
 use Rattle.works.proofs.BlameLemmas.{result_blames_none, text_blames, whole_kept}
-use Rattle.works.proofs.MakeLemmas.{made_said, read_same, sheet_unread}
+use Rattle.works.proofs.MakeLemmas.{first_unread, made_said, read_same, sheet_unread}
 use Rattle.works.proofs.joining.join.Goals as goal
+
+pub returns-in_err-given-clause-made : goal.returns-in_err-given-clause-made
+returns-in_err-given-clause-made g c =
+    let files = g.F.Shelf.files c.args.shelf.now in
+    let rose = Rose (g.F.Shelf.faults c.args.shelf.now) (g.F.Shelf.faults c.read_content.new.shelf) in
+    let task = join_smf c.args.lesson.now c.args.name.now c.args.manner in
+    let told = err_from_is_err_and c.from_residual.result c.from_residual.ensures.1 in
+    rw (told.1, told.2) (first_unread c.args.lesson.now (c.args.name.now ∷ []) files rose 1048576 _
+    (λ complaint. IsMade task files rose (Err complaint)) (λ file is. inl is) tt c.in_err-given.ensures.reads)
 
 pub returns-in_err-file-clause-made : goal.returns-in_err-file-clause-made
 returns-in_err-file-clause-made g c =

@@ -8,8 +8,17 @@ use Rattle.works.specs.Endings.{IsMade}
 use Rattle.works.specs.Blame.{IsUnserved}
 use Rattle.works.proofs.BlameLemmas.{names_kept, result_blames_none, served_later, sheet_blames, text_blames}
 use Rattle.works.proofs.MixedLemmas.{of_mixed_texts}
-use Rattle.works.proofs.MakeLemmas.{made_said, read_same, sheet_unread}
+use Rattle.works.proofs.MakeLemmas.{first_unread, made_said, read_same, sheet_unread}
 use Rattle.works.proofs.mixing.on_mixed.Goals as goal
+
+pub returns-in_err-text-clause-made : goal.returns-in_err-text-clause-made
+returns-in_err-text-clause-made g c =
+    let files = g.F.Shelf.files c.args.shelf.now in
+    let rose = Rose (g.F.Shelf.faults c.args.shelf.now) (g.F.Shelf.faults c.read_content.new.shelf) in
+    let task = on_mixed c.args.name.now (sheet_named c.args.sheet) c.args.named.now c.args.job in
+    let told = err_from_is_err_and c.from_residual.result c.from_residual.ensures.1 in
+    rw (told.1, told.2) (first_unread c.args.name.now (as_list (sheet_named c.args.sheet)) files rose 65536 _
+    (λ complaint. IsMade task files rose (Err complaint)) (λ file is. inl is) tt c.in_err-text.ensures.reads)
 
 pub returns-in_err-weights-clause-made : goal.returns-in_err-weights-clause-made
 returns-in_err-weights-clause-made g c =
