@@ -1,5 +1,5 @@
 -- What is said of a file of a class: by a lesson, or by itself; of a text, or of a MIDI file.
-use Rattle.std.specs.Prelude.{◌≡◌, ℕ, Bool, false, List, Option, Some, None, Ok, Err}
+use Rattle.std.specs.Prelude.{◌≡◌, ℕ, false, List, Option, Some, None, Ok, Err}
 use Rattle.class_marker.specs.declared.marking.MarkLines.{MarkLines}
 use Rattle.class_marker.specs.declared.one.Marking.TheVariants as marking
 use Rattle.class_marker.specs.declared.one.Text.{Text}

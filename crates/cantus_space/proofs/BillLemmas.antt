@@ -1,6 +1,6 @@
 -- What is paid with a note and for a line, by what a node keeps of pitches (`note_by`, `line_by`); the
 -- pitches of a cantus as they are read (`front-more`), and what its charges come to (`bill_sum`).
-use Rattle.std.proofs.Common.{◌≡◌, ℕ, ◌+◌, ◌<◌, ◌≤◌, ◌==◌, not, Bool, false, List, [], ◌∷◌, ◌++◌, filter_map, get_or, length, map, reverse, take, refl, ap, sym, subst, ◌∙◌, append_assoc, arith}
+use Rattle.std.proofs.Common.{◌≡◌, ℕ, ◌+◌, ◌<◌, ◌≤◌, ◌==◌, not, Bool, false, List, [], ◌∷◌, ◌++◌, filter_map, get_or, length, map, reverse, take, refl, ap, sym, ◌∙◌, append_assoc, arith}
 use Rattle.std.specs.Int.{from_bool}
 use Rattle.std.proofs.lemmas.Bool.Decides.{nat_tests}
 use Rattle.std.proofs.lemmas.List.{length-reverse, length-take-le, reverse-append, take_all, take_more}
@@ -17,8 +17,6 @@ use Rattle.cantus_space.specs.declared.prices.CantusPrices.{CantusPrices}
 use Rattle.cantus_space.specs.declared.node.CantusNode.{CantusNode}
 use Rattle.cantus_space.specs.declared.plan.CantusPlan.{CantusPlan}
 use Rattle.cantus_space.specs.Ahead.{floor_ends}
-use Rattle.cantus_space.specs.Lawful.{penalty_of}
-use Rattle.cantus_space.specs.Melody.{climax_bar}
 use Rattle.cantus_space.specs.Nodes.{HasPitches, started}
 use Rattle.cantus_space.specs.Rules.{floor_of, leap_excess}
 use Rattle.cantus_space.specs.declared.charge.CantusCharge.{CantusCharge}

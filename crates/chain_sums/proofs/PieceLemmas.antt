@@ -1,13 +1,12 @@
 -- What is gathered from the pieces of a row has the entries of all its columns
 -- (`entries_gathered`): they are the row (`row_of_entries`), and none is more than one cost above
 -- the next row (`small_of_entries`).
-use Rattle.std.proofs.Common.{◌≡◌, ℕ, zero, suc, ◌+◌, ◌/◌, ◌%◌, ◌<◌, min, List, [], ◌∷◌, ◌++◌, length, take, get_or, IfOk, Option, Some, None, Ok, Err, Vec, Global, ap, sym, subst, ◌∙◌, refl, arith}
+use Rattle.std.proofs.Common.{◌≡◌, ℕ, zero, suc, ◌+◌, ◌/◌, ◌%◌, ◌<◌, min, List, [], ◌∷◌, ◌++◌, length, take, get_or, IfOk, Option, Some, None, Ok, Err, ap, sym, subst, ◌∙◌, arith}
 use Rattle.std.specs.List.{AllZip, flat_map}
 use Rattle.std.specs.Result.{IsOk}
 use Rattle.std.specs.Fork.{IsChunk, slice_chunk}
 use Rattle.std.proofs.Math.Numerals.{add-one}
 use Rattle.std.proofs.lemmas.List.{flat_map_more, get_or-map, length-map, take_more}
-use Rattle.std.proofs.lemmas.List.Elements.{All-more}
 use Rattle.std.proofs.lemmas.Slice.Zip.{AllZip-long, all_zipped_more}
 use Rattle.arrayvec.specs.ArrayVec.{ArrayVec}
 use Rattle.chunk_laws.specs.Gathered.{AreGathered, items_in}

@@ -1,5 +1,5 @@
 -- What words ask for among which `--files` stands (`asked_files`).
-use Rattle.std.proofs.Common.{◌≡◌, ℕ, ◌+◌, List, ◌∷◌, Option, Some, drop, take, refl, subst}
+use Rattle.std.proofs.Common.{◌≡◌, ℕ, ◌+◌, List, ◌∷◌, Some, drop, take, refl, subst}
 use Rattle.std.specs.Prelude.{String, string_bytes}
 use Rattle.command_words.specs.Commands.{asked, asked_at, asked_on, files_at, texts}
 

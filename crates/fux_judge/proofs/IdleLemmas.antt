@@ -10,7 +10,7 @@ use Rattle.fux_grid.specs.declared.cell.Cell.{Cell}
 use Rattle.fux_grid.specs.declared.cell.Cell.TheVariants.{Rest, Hold, Start}
 use Rattle.fux_grid.specs.declared.exercise.Exercise.{Exercise}
 use Rattle.fux_grid.specs.Cells.{cell_in, is_hold}
-use Rattle.fux_grid.specs.Exercises.{IsFree, bar_of, columns_in, slot_of, species_in}
+use Rattle.fux_grid.specs.Exercises.{IsFree, bar_of, columns_in, slot_of}
 use Rattle.fux_grid.specs.Menus.{IsInMenu, cells_at, free_cells, menu_of, pool_of}
 use Rattle.fux_grid.specs.Orderly.{voice_shapes}
 use Rattle.fux_grid.specs.Shapes.{allows, letter_of}
@@ -18,7 +18,6 @@ use Rattle.fux_grid.proofs.CellLemmas.{cells_at-given}
 use Rattle.fux_grid.proofs.Combinations.{Contains-map_only}
 use Rattle.fux_grid.proofs.MenuLemmas.{menu_of-contains}
 use Rattle.rule_law.specs.Gauges.{menu_starts}
-use Rattle.rule_law.specs.Prefixes.{GoesOn}
 use Rattle.rule_law.specs.Rulebooks.{IsAmong, RuleRow, newly_breaks}
 use Rattle.rule_law.specs.Terms.{starts}
 use Rattle.rule_law.proofs.MenuStarts.{any_from}

@@ -1,4 +1,4 @@
-use Rattle.std.proofs.Common.{◌≡◌, ℕ, sym, subst, inl, inr, arith}
+use Rattle.std.proofs.Common.{◌≡◌, sym, subst, inl, inr, arith}
 use Rattle.std.proofs.lemmas.Bool.{cases_lt}
 use Rattle.fux_judge.specs.Idle.{EndsNoQuaver}
 use Rattle.fux_judge.proofs.idle.end_no_quaver.Goals as goal

@@ -1,4 +1,4 @@
-use Rattle.std.specs.Prelude.{◌≡◌, Bool, false, ◌&&◌, Option, Some, None, refl}
+use Rattle.std.specs.Prelude.{◌≡◌, false, ◌&&◌, Option, Some, None, refl}
 use Rattle.std.proofs.Common.{ap, sym, ◌∙◌}
 use Rattle.fux_pitch.specs.declared.interval.Interval.{Interval}
 use Rattle.fux_pitch.specs.Size.{is_perfect_size, reduced}

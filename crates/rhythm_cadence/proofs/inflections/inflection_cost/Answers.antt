@@ -1,4 +1,4 @@
-use Rattle.std.proofs.Common.{◌&&◌, [], sym}
+use Rattle.std.proofs.Common.{◌&&◌, []}
 use Rattle.std.specs.Prelude.{nat_lt, slice_index_or}
 use Rattle.fux_grid.specs.Columns.{earlier}
 use Rattle.rhythm_cadence.specs.Inflections.{inflection_toll, is_inflected}

@@ -1,4 +1,4 @@
-use Rattle.std.proofs.Common.{sym, subst}
+use Rattle.std.proofs.Common.{subst}
 use Rattle.fux_grid.specs.declared.exercise.Exercise.{Exercise}
 use Rattle.works.specs.Charged.{Weighs}
 use Rattle.works.specs.Works.{Answers}

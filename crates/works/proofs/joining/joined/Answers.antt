@@ -1,10 +1,8 @@
-use Rattle.std.proofs.Common.{◌≡◌, ℕ, List, Result, Err, inl, refl, ◌∙◌, subst}
+use Rattle.std.proofs.Common.{Err, inl, refl, subst}
 use Rattle.smf_bytes.specs.declared.fault.ByteFault.TheVariants.{TooLong}
 use Rattle.class_marker.specs.Markings.{IsContent}
-use Rattle.fux_grid.specs.Grid.{Grid}
 use Rattle.smf_score.specs.declared.join_fault.JoinFault.{JoinFault}
 use Rattle.smf_score.specs.declared.join_fault.JoinFault.TheVariants as joined
-use Rattle.smf_score.specs.Joining.{FailsAs, IsJoined}
 use Rattle.smf_score.specs.declared.fault.SmfFault.TheVariants as faults
 use Rattle.works.proofs.joining.joined.Goals as goal
 
