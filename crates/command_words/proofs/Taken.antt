@@ -5,7 +5,7 @@ use Rattle.std.proofs.Common.{◌≡◌, List, [], ◌∷◌, true, Option, Some
 use Rattle.std.proofs.lemmas.Bool.{and_parts}
 use Rattle.clap.specs.Words.{App, IsAmong, Kinds, Row, Text, fault_of, is_simple, is_simple_and_free, matches_of}
 use Rattle.clap.specs.declared.error.kind.ErrorKind.{ErrorKind}
-use Rattle.command_words.specs.Commands.{Task, asked_by, asked_on, asks, files_asked, found_in, if_faultless}
+use Rattle.command_words.specs.Commands.{Task, ◌>>=◌, asked_by, asked_on, asks, files_asked, found_in, if_faultless}
 use Rattle.command_words.specs.Forms.{files_form, form_of}
 use Rattle.command_words.specs.declared.verbs.Verb.{Verb}
 

@@ -1,5 +1,5 @@
 -- What the words on the command line ask for. A word is its bytes.
-use Rattle.std.specs.Prelude.{ℕ, ◌+◌, ◌-◌, ◌==◌, ◌≤◌, ◌≤ℤ◌, ◌&&◌, ◌||◌, int_le, nat_le, not, length, Bool, true, false, List, [], ◌∷◌, String, Option, Some, None, drop, take, map, string_bytes, codes, if◌then◌else◌, option_and_then, option_map}
+use Rattle.std.specs.Prelude.{◌≡◌, ℕ, ◌+◌, ◌-◌, ◌==◌, ◌≤◌, ◌≤ℤ◌, ◌&&◌, ◌||◌, int_le, nat_le, not, length, Bool, true, false, List, [], ◌∷◌, String, Option, Some, None, drop, take, map, string_bytes, codes, if◌then◌else◌, option_and_then, option_map}
 use Rattle.std.specs.Borrow.{Bor}
 use Rattle.std.specs.Option.{option_map_or}
 use Rattle.std.specs.Str.{bytes_eq}

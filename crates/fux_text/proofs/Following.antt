@@ -12,6 +12,7 @@ use Rattle.fux_grid.specs.Cells.{cell_follows, pitch_of, held}
 use Rattle.fux_grid.proofs.PitchTests.{same_pitch-from_equal}
 use Rattle.fux_text.specs.declared.fault.TextKind.{TextKind}
 use Rattle.fux_text.specs.declared.fault.TextKind.TheVariants as kinds
+use Rattle.text_lines.specs.Faults.{◌>>=◌}
 use Rattle.text_lines.specs.Lines.{TextLines}
 use Rattle.text_lines.specs.Numbers.{if_within}
 use Rattle.text_lines.specs.Reading.{same_text}

@@ -20,6 +20,7 @@ use Rattle.fux_grid.specs.Givens.{FollowOn, given_follows}
 use Rattle.fux_grid.proofs.PitchTests.{same_pitch-from_equal}
 use Rattle.fux_text.specs.declared.fault.TextKind.{TextKind}
 use Rattle.fux_text.specs.declared.fault.TextKind.TheVariants as kinds
+use Rattle.text_lines.specs.Faults.{◌>>=◌}
 use Rattle.text_lines.specs.Numbers.{if_within}
 use Rattle.text_lines.specs.Reading.{same_text}
 use Rattle.text_lines.specs.Rows.{IsRun, refused_if}

@@ -4,7 +4,7 @@ use Rattle.fux_pitch.specs.declared.pitch.Pitch.{Pitch}
 use Rattle.text_lines.specs.declared.fault.TextFault.{TextFault}
 use Rattle.text_lines.specs.declared.fault.TextFault.TheVariants as faults
 use Rattle.fux_text.specs.declared.fault.TextKind.TheVariants as kinds
-use Rattle.text_lines.specs.Faults.{Fault, Fails}
+use Rattle.text_lines.specs.Faults.{Fault, Fails, ◌>>=◌}
 use Rattle.text_lines.specs.Reading.{done}
 use Rattle.text_lines.specs.Rows.{place_in, row_in}
 use Rattle.text_lines.specs.Words.{LineWords}

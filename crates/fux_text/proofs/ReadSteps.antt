@@ -9,7 +9,7 @@ use Rattle.fux_grid.specs.Grid.{Grid}
 use Rattle.text_lines.specs.declared.fault.TextFault.{TextFault}
 use Rattle.text_lines.specs.declared.fault.TextFault.TheVariants as faults
 use Rattle.fux_text.specs.declared.fault.TextKind.TheVariants as kinds
-use Rattle.text_lines.specs.Faults.{Fails, Fault}
+use Rattle.text_lines.specs.Faults.{Fails, Fault, ◌>>=◌}
 use Rattle.text_lines.specs.Lines.{TextLines}
 use Rattle.text_lines.specs.Tables.{line_in, many_in, table_in, text_read}
 use Rattle.text_lines.specs.Utf8.{text_in}

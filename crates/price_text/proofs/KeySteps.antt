@@ -1,4 +1,5 @@
 -- Reading keys one by one (`keys-more`).
+use Rattle.text_lines.specs.Faults.{◌>>=◌}
 use Rattle.std.proofs.Common.{◌≡◌, ℕ, zero, suc, ◌+◌, ◌-◌, ◌<◌, Bool, false, List, [], ◌∷◌, ◌++◌, length, Option, Some, Result, Ok, Err, sym, ap, ◌∙◌, subst, append_assoc, arith}
 use Rattle.std.specs.Option.{ok_or}
 use Rattle.price_text.specs.Laws.{IsKeysRead}

@@ -1,5 +1,6 @@
 -- A line that is read may stand there, and its text stands at the front of the bytes
 -- (`read_lines_fit`).
+use Rattle.text_lines.specs.Faults.{◌>>=◌}
 use Rattle.std.proofs.Common.{◌≡◌, ℕ, zero, suc, ◌+◌, ◌-◌, ◌<◌, ◌≤◌, Bool, true, false, List, [], ◌∷◌, ◌++◌, map, Option, Some, None, option_map, Ok, refl, sym, ap, ◌∙◌, subst, arith, if◌then◌else◌}
 use Rattle.std.specs.Prelude.{◌&&◌, nat_lt, nat_le, not, codes}
 use Rattle.std.specs.Fmt.{decimal}

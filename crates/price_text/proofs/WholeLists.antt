@@ -1,5 +1,6 @@
 -- Lists are read line by line (`read_on`, `read_last`, `read_wrong`); those that are written are read
 -- (`lists_are_read`), and what is read are lists (`read_lists_fit`).
+use Rattle.text_lines.specs.Faults.{◌>>=◌}
 use Rattle.std.proofs.Common.{◌≡◌, ℕ, zero, suc, ◌+◌, ◌-◌, ◌<◌, ◌≤◌, Bool, true, false, List, [], ◌∷◌, ◌++◌, length, length-append, Result, Ok, Err, refl, sym, ap, ◌∙◌, append_assoc, append-nil, arith, subst}
 use Rattle.std.specs.Prelude.{flat_map}
 use Rattle.std.specs.List.{join_with_byte}

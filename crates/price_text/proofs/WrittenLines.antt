@@ -1,4 +1,5 @@
 -- A line that may stand there is read as it is written (`lines_are_read`).
+use Rattle.text_lines.specs.Faults.{◌>>=◌}
 use Rattle.std.proofs.Common.{◌≡◌, ℕ, zero, suc, ◌+◌, ◌-◌, ◌%◌, ◌<◌, ◌≤◌, ◌^◌, Bool, true, false, List, [], ◌∷◌, ◌++◌, map, Some, option_map, Ok, refl, ap, ◌∙◌, subst, arith}
 use Rattle.std.specs.Prelude.{◌==◌, ◌&&◌, nat_lt, not, codes}
 use Rattle.std.specs.Fmt.{decimal}

@@ -5,7 +5,7 @@ use Rattle.std.proofs.lemmas.Bool.{eqb-true, eqb-false}
 use Rattle.std.proofs.lemmas.List.{nil_from_length}
 use Rattle.smf_bytes.specs.declared.fault.ByteFault.{ByteFault}
 use Rattle.smf_bytes.specs.declared.fault.ByteFault.TheVariants.{NoEnd}
-use Rattle.smf_bytes.specs.Numbers.{quantity_in}
+use Rattle.smf_bytes.specs.Numbers.{◌>>=◌, quantity_in}
 use Rattle.smf_bytes.specs.Rows.{IsQuantity, LacksQuantity, row_in}
 use Rattle.smf_bytes.specs.Messages.{Event, ends_track, event_row}
 use Rattle.smf_bytes.specs.Chunks.{track_in}

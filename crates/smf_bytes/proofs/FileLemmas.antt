@@ -10,7 +10,7 @@ use Rattle.smf_bytes.specs.declared.chunks.Header.{Header}
 use Rattle.smf_bytes.specs.declared.events.Event as declared
 use Rattle.smf_bytes.specs.declared.events.Events.{Events}
 use Rattle.smf_bytes.specs.declared.events.Track.{Track}
-use Rattle.smf_bytes.specs.Numbers.{Gives}
+use Rattle.smf_bytes.specs.Numbers.{◌>>=◌, Gives}
 use Rattle.smf_bytes.specs.Messages.{Event, ends_track}
 use Rattle.smf_bytes.specs.Rows.{IsRow, row_in}
 use Rattle.smf_bytes.specs.Chunks.{Chunk, fields_row, header_in, header_row, track_in}

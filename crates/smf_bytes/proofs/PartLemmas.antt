@@ -7,7 +7,7 @@ use Rattle.std.proofs.lemmas.List.{append-nil, length-append, length-take-le, ta
 use Rattle.std.proofs.Math.Seq.{take-append_seam, drop-append_seam}
 use Rattle.smf_bytes.specs.declared.fault.ByteFault.{ByteFault}
 use Rattle.smf_bytes.specs.declared.fault.ByteFault.TheVariants.{Truncated, Status}
-use Rattle.smf_bytes.specs.Numbers.{byte_in, bytes_in, data_in, digits_in, number_in, quantity_in}
+use Rattle.smf_bytes.specs.Numbers.{◌>>=◌, byte_in, bytes_in, data_in, digits_in, number_in, quantity_in}
 use Rattle.smf_bytes.specs.Rows.{AreBytes, AreDigits, IsByte, IsData, IsNumber, IsQuantity, LacksBytes, LacksData, LacksDigits, LacksQuantity, marked, value_of}
 
 -- what a part tells: what it says, and what stands behind it, or its fault

@@ -2,6 +2,7 @@
 use Rattle.std.proofs.Common.{◌≡◌, ◌⊎◌, inl, inr, ℕ, ◌≤◌, List, length, Result, Ok, Err, refl, ap, arith}
 use Rattle.std.specs.Int.{byte_len}
 use Rattle.smf_bytes.specs.declared.fault.ByteFault.{ByteFault}
+use Rattle.smf_bytes.specs.Numbers.{◌>>=◌}
 use Rattle.smf_bytes.specs.Rows.{IsRow, IsRowFault, Row, row_in}
 use Rattle.smf_bytes.proofs.PartLemmas.{PartTold, Tells, bytes_shorter, bytes_tells, byte_tells, data_tells, digits_shorter, number_tells, quantity_tells, read_then}
 

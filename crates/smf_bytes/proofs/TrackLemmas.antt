@@ -5,6 +5,7 @@ use Rattle.std.proofs.lemmas.Bool.{eqb-false, eqb-true}
 use Rattle.smf_bytes.specs.declared.fault.ByteFault.{ByteFault}
 use Rattle.smf_bytes.specs.declared.fault.ByteFault.TheVariants.{Truncated}
 use Rattle.smf_bytes.specs.declared.chunks.TheConstants.{TRACK}
+use Rattle.smf_bytes.specs.Numbers.{◌>>=◌}
 use Rattle.smf_bytes.specs.Rows.{IsRow, IsRowFault, row_in}
 use Rattle.smf_bytes.specs.Chunks.{Chunk, chunk_row, track_in}
 use Rattle.smf_bytes.specs.Files.{ArePassed, IsTrack, IsTrackFault}

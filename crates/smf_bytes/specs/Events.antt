@@ -7,7 +7,7 @@ use Rattle.smf_bytes.specs.declared.chunks.Header.{Header}
 use Rattle.smf_bytes.specs.declared.events.Event as declared
 use Rattle.smf_bytes.specs.declared.events.Events.{Events}
 use Rattle.smf_bytes.specs.declared.events.Track.{Track}
-use Rattle.smf_bytes.specs.Numbers.{quantity_in}
+use Rattle.smf_bytes.specs.Numbers.{◌>>=◌, quantity_in}
 use Rattle.smf_bytes.specs.Messages.{IsInRange, Event, Message, ends_track, event_row, seen_kind}
 use Rattle.smf_bytes.specs.Rows.{row_in}
 use Rattle.smf_bytes.specs.Chunks.{Chunk, header_in, track_in}

@@ -5,7 +5,7 @@ use Rattle.std.specs.Prelude.{◌≡◌, ◌⊎◌, ◌<◌, ◌≤◌, ◌+◌,
 use Rattle.std.specs.Int.{Width, byte_len, from_be_bytes}
 use Rattle.smf_bytes.specs.declared.fault.ByteFault.{ByteFault}
 use Rattle.smf_bytes.specs.declared.fault.ByteFault.TheVariants.{Truncated, LongNumber, Status}
-use Rattle.smf_bytes.specs.Numbers.{byte_in, bytes_in, data_in, number_in, quantity_in}
+use Rattle.smf_bytes.specs.Numbers.{◌>>=◌, byte_in, bytes_in, data_in, number_in, quantity_in}
 
 -- a row of parts: nothing more, and what was said; the byte before is refused, which is a fault by
 -- its offset; or a byte, a data byte, a number, a quantity or so many bytes, and the parts behind

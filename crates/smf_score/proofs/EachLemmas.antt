@@ -4,7 +4,7 @@ use Rattle.std.proofs.Common.{◌≡◌, List, [], ◌∷◌, ◌++◌, map, Res
 use Rattle.std.proofs.lemmas.List.{append-nil}
 use Rattle.smf_score.specs.declared.fault.SmfFault.{SmfFault}
 use Rattle.smf_score.specs.declared.fault.SmfFault.TheVariants as faults
-use Rattle.smf_score.specs.Faults.{Fails, each}
+use Rattle.smf_score.specs.Faults.{◌>>=◌, Fails, each}
 
 -- a fault that reading gives is a fault of the answer
 pub fails_from : {Y : Type 0} (e : SmfFault) (read : Result Y SmfFault) → read ≡ Err e → Fails e read

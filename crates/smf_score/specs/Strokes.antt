@@ -7,6 +7,7 @@ use Rattle.smf_score.specs.declared.fault.SmfFault.TheVariants.{Bytes}
 use Rattle.smf_score.specs.declared.strokes.Act.{Act}
 use Rattle.smf_score.specs.declared.strokes.Act.TheVariants.{Strike, Release, End, Nothing}
 use Rattle.smf_score.specs.declared.strokes.Stroke.{Stroke}
+use Rattle.smf_score.specs.Faults.{◌>>=◌}
 
 -- what an event does to the notes of its track; a key that is struck with velocity 0 is let go
 abbrev pub act_of : Message → Act

@@ -7,7 +7,7 @@ use Rattle.fux_text.specs.declared.fault.TextKind.TheVariants as kinds
 use Rattle.fux_text.specs.Head.{mode_row, number_row, species_row}
 use Rattle.fux_text.specs.Limits.{most_voices, newest_version}
 use Rattle.fux_text.specs.Relaxing.{relax_of}
-use Rattle.text_lines.specs.Faults.{Fault}
+use Rattle.text_lines.specs.Faults.{Fault, ◌>>=◌}
 use Rattle.text_lines.specs.Reading.{done, fault_at, fault_past, next, none_left, same_text}
 use Rattle.text_lines.specs.Rows.{Row, Run, row_in, run_in, told_at, told_beyond}
 use Rattle.text_lines.specs.Words.{LineWords, PlacedWord, first_of}

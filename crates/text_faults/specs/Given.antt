@@ -4,6 +4,7 @@ use Rattle.fux_grid.specs.declared.given.GivenBar.{GivenBar}
 use Rattle.fux_text.specs.declared.fault.TextKind.{TextKind}
 use Rattle.fux_text.specs.declared.fault.TextKind.TheVariants as kinds
 use Rattle.fux_text.specs.GivenLines.{given_run}
+use Rattle.text_lines.specs.Faults.{◌>>=◌}
 use Rattle.text_lines.specs.Rows.{Row, named_place, number_place, row_in}
 use Rattle.text_lines.specs.Words.{LineWords}
 use Rattle.text_faults.specs.declared.known.Known.{Known}

@@ -6,7 +6,7 @@ use Rattle.fux_text.specs.declared.fault.TextKind.{TextKind}
 use Rattle.fux_text.specs.declared.fault.TextKind.TheVariants as kinds
 use Rattle.fux_text.specs.Head.{mode_row, number_row, pitches_row, species_row}
 use Rattle.fux_text.specs.Limits.{most_voices, newest_version}
-use Rattle.text_lines.specs.Faults.{Fault}
+use Rattle.text_lines.specs.Faults.{Fault, ◌>>=◌}
 use Rattle.text_lines.specs.Rows.{Row, named_place, row_in}
 use Rattle.text_lines.specs.Words.{LineWords}
 use Rattle.text_faults.specs.declared.known.Known.{Known}

@@ -5,6 +5,7 @@ use Rattle.fux_text.specs.declared.fault.TextKind.{TextKind}
 use Rattle.fux_text.specs.declared.fault.TextKind.TheVariants as kinds
 use Rattle.fux_text.specs.Head.{pitch_place}
 use Rattle.fux_text.specs.Ranges.{bars_row, high_place}
+use Rattle.text_lines.specs.Faults.{◌>>=◌}
 use Rattle.text_lines.specs.Rows.{Place, Row, named_place, row_in}
 use Rattle.text_lines.specs.Words.{LineWords, PlacedWord, first_word}
 use Rattle.text_faults.specs.declared.known.Known.{Known}

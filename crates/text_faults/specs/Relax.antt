@@ -1,6 +1,7 @@
 -- A `relax` line, judged by itself.
 use Rattle.std.specs.Prelude.{Ok}
 use Rattle.fux_text.specs.Relaxing.{relax_of}
+use Rattle.text_lines.specs.Faults.{◌>>=◌}
 use Rattle.text_lines.specs.Rows.{row_in}
 use Rattle.text_lines.specs.Words.{LineWords}
 use Rattle.text_faults.specs.declared.known.Known.{Known}

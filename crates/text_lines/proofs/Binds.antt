@@ -1,6 +1,7 @@
 -- What follows where a chain of steps gives a value.
 use Rattle.std.proofs.Common.{◌≡◌, Option, Some, None, Result, Ok, Err, refl, arith}
 use Rattle.std.specs.Option.{ok_or}
+use Rattle.text_lines.specs.Faults.{◌>>=◌}
 
 -- the first step gives a value, and the others go on from it
 pub bind_ok : {A B E : Type 0} (r : Result A E) (f : A → Result B E) (y : B) → (r >>= f) ≡ Ok y

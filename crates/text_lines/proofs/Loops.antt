@@ -2,7 +2,7 @@
 use Rattle.std.proofs.Common.{◌≡◌, ℕ, ◌+◌, ◌<◌, true, false, List, [], ◌∷◌, ◌++◌, length, Some, None, Result, Ok, refl, sym, subst, ◌∙◌, arith}
 use Rattle.text_lines.specs.declared.fault.TextFault.{TextFault}
 use Rattle.text_lines.specs.declared.fault.TextFault.TheVariants as faults
-use Rattle.text_lines.specs.Faults.{Fault, Fails}
+use Rattle.text_lines.specs.Faults.{Fault, Fails, ◌>>=◌}
 use Rattle.text_lines.specs.Lines.{TextLines}
 use Rattle.text_lines.specs.Rows.{Run, run_in, told_at, told_beyond}
 use Rattle.text_lines.specs.Tables.{Many, goes_on, line_in, many_in}

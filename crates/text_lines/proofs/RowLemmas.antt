@@ -1,7 +1,7 @@
 -- Reading a row gives what its right words say, or its first fault, and just that.
 use Rattle.std.proofs.Common.{◌≡◌, ◌↔◌, inl, inr, List, [], ◌∷◌, Option, Some, None, Result, Ok, Err, refl, sym, ap, subst}
 use Rattle.std.specs.Option.{ok_or}
-use Rattle.text_lines.specs.Faults.{Fault}
+use Rattle.text_lines.specs.Faults.{Fault, ◌>>=◌}
 use Rattle.text_lines.specs.Reading.{done, fault_past, next, none_left}
 use Rattle.text_lines.specs.Rows.{IsRow, IsRowFault, IsRun, IsRunFault, Lacks, Place, Row, Run, Stands, left_behind, place_in, row_in, run_in, texts_of, told_at, told_beyond}
 use Rattle.text_lines.specs.Words.{LineWords, PlacedWord, first_word}

@@ -4,7 +4,7 @@ use Rattle.std.specs.Prelude.{nat_lt, if◌then◌else◌}
 use Rattle.std.specs.Str.{IsUtf8, is_utf8}
 use Rattle.std.proofs.lemmas.Bool.{ltb-false, lt-ltb, ltb-true}
 use Rattle.std.proofs.lemmas.Str.{IsUtf8-from_is_utf8, is_utf8-from_IsUtf8}
-use Rattle.text_lines.specs.Faults.{Fault}
+use Rattle.text_lines.specs.Faults.{Fault, ◌>>=◌}
 use Rattle.text_lines.specs.Lines.{TextLines, lines_in}
 use Rattle.text_lines.specs.Tables.{Format, IsTable, IsTextFault, table_in, text_read}
 use Rattle.text_lines.specs.Utf8.{begun_text, fault_behind, fault_of_utf8, text_in}

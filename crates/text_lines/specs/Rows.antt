@@ -2,7 +2,7 @@
 -- lines are right, and the first fault of one that isn't.
 use Rattle.std.specs.Prelude.{◌≡◌, ◌⊎◌, ℕ, Bool, List, [], ◌∷◌, Option, Some, None, Result, Ok, Err, map, if◌then◌else◌}
 use Rattle.std.specs.Option.{ok_or}
-use Rattle.text_lines.specs.Faults.{Fault}
+use Rattle.text_lines.specs.Faults.{Fault, ◌>>=◌}
 use Rattle.text_lines.specs.Numbers.{number_within}
 use Rattle.text_lines.specs.Reading.{done, fault_at, fault_beyond, fault_past, next, same_text}
 use Rattle.text_lines.specs.Words.{LineWords, PlacedWord, first_word}

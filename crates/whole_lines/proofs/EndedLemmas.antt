@@ -10,7 +10,7 @@ use Rattle.std.proofs.lemmas.Grind.{common_steps}
 use Rattle.std.proofs.lemmas.List.{drop_all, length-append, take_all, take_more}
 use Rattle.std.proofs.lemmas.List.Elements.{All-head, All-tail}
 use Rattle.std.proofs.lemmas.List.Sums.{fails_before_first, passes_at_first, split_at_first}
-use Rattle.text_lines.specs.Faults.{Fault}
+use Rattle.text_lines.specs.Faults.{Fault, ◌>>=◌}
 use Rattle.text_lines.specs.Reading.{fault_at, literal, next, same_text}
 use Rattle.text_lines.specs.Rows.{Row, right_word, row_in, told_at, word_place}
 use Rattle.text_lines.specs.Words.{LineWords, PlacedWord, first_word}

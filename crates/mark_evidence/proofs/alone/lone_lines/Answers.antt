@@ -1,4 +1,4 @@
-use Rattle.std.proofs.Common.{sym, arith}
+use Rattle.std.proofs.Common.{◌++◌, ◌∷◌, sym, ◌∙◌, arith}
 use Rattle.std.proofs.lemmas.List.FromFn.{map-range_with_len_more}
 use Rattle.mark_evidence.specs.Alone.{lone_line}
 use Rattle.mark_evidence.proofs.alone.lone_lines.Goals as goal

@@ -1,5 +1,6 @@
 use Rattle.std.proofs.Common.{◌≡◌, ◌++◌, Ok, All, length}
 use Rattle.smf_bytes.specs.Events.{to_come}
+use Rattle.smf_score.specs.Faults.{◌>>=◌}
 use Rattle.smf_score.specs.Strokes.{IsStroke, strokes_in}
 use Rattle.smf_score.specs.Meters.{signatures_in}
 use Rattle.smf_score.proofs.joining.heard_of.Given as goal

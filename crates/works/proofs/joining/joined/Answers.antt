@@ -1,4 +1,4 @@
-use Rattle.std.proofs.Common.{Err, inl, refl, subst}
+use Rattle.std.proofs.Common.{◌≡◌, Err, inl, refl, ◌∙◌, subst}
 use Rattle.smf_bytes.specs.declared.fault.ByteFault.TheVariants.{TooLong}
 use Rattle.class_marker.specs.Markings.{IsContent}
 use Rattle.smf_score.specs.declared.join_fault.JoinFault.{JoinFault}

@@ -1,4 +1,4 @@
-use Rattle.std.proofs.Common.{ap, ap₂, ◌∙◌}
+use Rattle.std.proofs.Common.{◌≡◌, ap, ap₂, ◌∙◌}
 use Rattle.works.specs.declared.work.Verdict.{Verdict}
 use Rattle.works.specs.ClassPages.{page_verdict}
 use Rattle.works.proofs.paging.output_of.Goals as goal
