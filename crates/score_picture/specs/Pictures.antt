@@ -13,8 +13,8 @@ use Rattle.sheet_layout.specs.declared.page.BarPlace.{BarPlace}
 use Rattle.sheet_layout.specs.declared.system.Staff.{Staff}
 use Rattle.sheet_layout.specs.Pages.{bar_places, staves}
 use Rattle.sheet_layout.specs.Spacing.{all_notes, voice_notes}
-use Rattle.score_xml.specs.Documents.{marks_of}
-use Rattle.score_xml.specs.Titles.{title_words}
+use Rattle.written_notes.specs.Documents.{marks_of}
+use Rattle.written_notes.specs.Titles.{title_words}
 use Rattle.score_picture.specs.declared.symbols.TheConstants.{SYMBOLS}
 use Rattle.score_picture.specs.Names.{rule_words}
 use Rattle.score_picture.specs.NoteRows.{note_rows, notes_group, tie_end}

@@ -1,7 +1,7 @@
 //! A whole picture.
 
 ghost use Rattle.std.specs.Prelude.{◌≡◌, ◌+◌, ◌*◌, ◌<◌, ◌≤◌, ◌^◌, ◌++◌, All, IfOk, OnOk, length, string_bytes};
-ghost use Rattle.score_xml.specs.Documents.{marks_of as marks_in};
+ghost use Rattle.written_notes.specs.Documents.{marks_of as marks_in};
 ghost use Rattle.score_picture.specs.Pictures.{begin, drawn_of, head, inlined_of, inner_head, last_top as top_of_last, lines_of as lines_of_all, page, page_end as end_of_page, picture_of, size, system_height as height_of_system, title_row};
 
 use crate::bars::put_bars;
@@ -10,11 +10,10 @@ use crate::notes::Marked;
 use crate::symbols::SYMBOLS;
 use fux_grid::{Cell, Exercise};
 use fux_pitch::{List, Memory};
-use score_xml::{marks_of, put_title_words};
 use sheet_layout::{BarPlace, Staff, bar_places, staves};
 use std::alloc::Global;
 use std::fmt::Write;
-use written_notes::{SheetMark, voice_line};
+use written_notes::{SheetMark, marks_of, put_title_words, voice_line};
 
 /// The lines of all voices, the lowest first.
 fn lines_of(alloc: Global, ex: &Exercise) -> Result<Vec<List<Cell>>, Memory>

@@ -12,7 +12,7 @@ use Rattle.score_marker.specs.Marks.{AreMarks}
 use Rattle.score_picture.specs.Pictures.{picture_of}
 use Rattle.score_print.specs.Printed.{printed_sheet}
 use Rattle.score_print.specs.Systems.{IsWrapped}
-use Rattle.score_xml.specs.Documents.{document}
+use Rattle.written_notes.specs.Documents.{document}
 use Rattle.smf_score.specs.Written.{smf_of}
 use Rattle.written_notes.specs.declared.marks.SheetMark.{SheetMark}
 use Rattle.works.specs.declared.work.Output.{Output}

@@ -16,8 +16,8 @@ use penalty_sheet::Sheet;
 use score_marker::{Mark, marks};
 use score_picture::picture;
 use score_print::print_wrapped;
-use score_xml::score_xml;
 use std::alloc::Global;
+use written_notes::score_xml;
 
 /// The printed score of an exercise: of its setting, or without one of the sheet to hand out; in
 /// systems where a width is given.

@@ -1,2 +1,4 @@
 pub mod Steps
 pub mod ValueSums
+pub mod Downward
+pub mod Pushed

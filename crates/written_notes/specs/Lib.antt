@@ -7,3 +7,7 @@ pub mod Runs
 pub mod Sheets
 pub mod Signs
 pub mod Values
+pub mod Documents
+pub mod Measures
+pub mod NoteRows
+pub mod Titles

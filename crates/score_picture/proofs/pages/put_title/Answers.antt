@@ -1,6 +1,6 @@
 use Rattle.std.proofs.Common.{◌++◌, string_bytes, codes}
 use Rattle.score_picture.proofs.Pushed.{pushed}
-use Rattle.score_xml.specs.Titles.{title_words}
+use Rattle.written_notes.specs.Titles.{title_words}
 use Rattle.score_picture.specs.Pictures.{title_row}
 use Rattle.score_picture.proofs.pages.put_title.Goals as goal
 

@@ -1,2 +1,0 @@
-pub mod Downward
-pub mod Pushed

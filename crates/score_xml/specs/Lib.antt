@@ -1,4 +1,0 @@
-pub mod Documents
-pub mod Measures
-pub mod NoteRows
-pub mod Titles
