@@ -2,3 +2,5 @@ pub mod ListLemmas
 pub mod ReportLemmas
 pub mod AnsweringLemmas
 pub mod SectionLemmas
+pub mod LooseLineLemmas
+pub mod WholeReportLemmas

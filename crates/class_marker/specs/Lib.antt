@@ -6,3 +6,6 @@ pub mod Answering
 pub mod Answers
 pub mod DifferenceLines
 pub mod Differences
+pub mod LooseLists
+pub mod WholeReports
+pub mod Sayings

@@ -4,7 +4,7 @@
 use Rattle.std.proofs.Common.{◌≡◌, ℕ, ◌+◌, ◌*◌, ◌≤◌, List, [], ◌∷◌, Contains, length, map, Global, Option, Result, Ok, Err, ap, refl, sym, subst, ◌∙◌, inr, arith}
 use Rattle.std.specs.Prelude.{String, string_bytes}
 use Rattle.std.proofs.lemmas.List.{length-map}
-use Rattle.answer_classes.specs.LooseLists.{loose_names}
+use Rattle.class_marker.specs.LooseLists.{loose_names}
 use Rattle.class_marker.specs.Lists.{listed_names}
 use Rattle.class_marker.specs.Markings.{IsContent}
 use Rattle.class_marker.specs.declared.one.Text.{Text as Content}

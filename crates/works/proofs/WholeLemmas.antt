@@ -9,11 +9,11 @@ use Rattle.std.specs.Option.{option_copied}
 use Rattle.std.proofs.lemmas.List.{length-map, take_more}
 use Rattle.std.proofs.lemmas.List.Sums.{count_by-le-length}
 use Rattle.std.proofs.lemmas.Slice.Zip.{AllZip-long}
-use Rattle.answer_classes.specs.declared.report.WholeReport.{WholeReport}
-use Rattle.answer_classes.specs.declared.said.Said.{Said}
-use Rattle.answer_classes.specs.declared.said.Said.TheVariants.{Told, Refused, Unjoined, Unread}
-use Rattle.answer_classes.specs.Sayings.{IsSaid, IsSaidOrUnread}
-use Rattle.answer_classes.specs.Reports.{IsReportOf, IsWholeOf, Saying, has_mark, is_other, is_refused}
+use Rattle.class_marker.specs.declared.whole_report.WholeReport.{WholeReport}
+use Rattle.class_marker.specs.declared.said.Said.{Said}
+use Rattle.class_marker.specs.declared.said.Said.TheVariants.{Told, Refused, Unjoined, Unread}
+use Rattle.class_marker.specs.Sayings.{IsSaid, IsSaidOrUnread}
+use Rattle.class_marker.specs.WholeReports.{IsReportOf, IsWholeOf, Saying, has_mark, is_other, is_refused}
 use Rattle.class_marker.specs.declared.one.Text.{Text as Content}
 use Rattle.class_marker.specs.Markings.{IsContent}
 use Rattle.fux_grid.specs.declared.exercise.Exercise.{Exercise}

@@ -1,6 +1,6 @@
 -- How much a command reads: of each of its files at most a byte beyond the limit.
 use Rattle.std.specs.Prelude.{ℕ, ◌+◌, ◌*◌, ◌≤◌, ◌⊎◌, List, [], ◌∷◌, length}
-use Rattle.answer_classes.specs.LooseLists.{loose_names}
+use Rattle.class_marker.specs.LooseLists.{loose_names}
 use Rattle.command_words.specs.Commands.{Task, whole_class, whole_files}
 use Rattle.works.specs.Blame.{limit_within}
 use Rattle.works.specs.TaskFiles.{limit_in, names_in, names_listed, names_within}

@@ -2,12 +2,12 @@
 -- read.
 use Rattle.std.specs.Prelude.{◌≡◌, ℕ, ◌⊎◌, ◌+◌, Bool, true, false, List, [], ◌∷◌, Option, Some, None, Ok, Err, string_bytes}
 use Rattle.std.specs.List.{AllZip}
-use Rattle.answer_classes.specs.declared.report.WholeReport.{WholeReport}
-use Rattle.answer_classes.specs.declared.said.Said.{Said}
-use Rattle.answer_classes.specs.declared.said.Said.TheVariants.{Told, Refused, Unjoined, Unread}
-use Rattle.answer_classes.specs.LooseLists.{loose_names}
-use Rattle.answer_classes.specs.Reports.{IsReportOf, IsWholeOf, Saying}
-use Rattle.answer_classes.specs.Sayings.{IsSaid, IsSaidJoined}
+use Rattle.class_marker.specs.declared.whole_report.WholeReport.{WholeReport}
+use Rattle.class_marker.specs.declared.said.Said.{Said}
+use Rattle.class_marker.specs.declared.said.Said.TheVariants.{Told, Refused, Unjoined, Unread}
+use Rattle.class_marker.specs.LooseLists.{loose_names}
+use Rattle.class_marker.specs.WholeReports.{IsReportOf, IsWholeOf, Saying}
+use Rattle.class_marker.specs.Sayings.{IsSaid, IsSaidJoined}
 use Rattle.command_words.specs.declared.command.FileKind.{FileKind}
 use Rattle.command_words.specs.declared.command.FileKind.TheVariants as read_as
 use Rattle.fux_grid.specs.declared.exercise.Exercise.{Exercise}

@@ -3,8 +3,8 @@
 
 ghost use Rattle.std.specs.Prelude.{◌≡◌, ◌+◌, ◌*◌, ◌≤◌, ℕ, IfErr, IfOk, List, length, map, string_bytes};
 ghost use Rattle.std.specs.Option.{ForSome, option_copied};
-ghost use Rattle.answer_classes.specs.LooseLists.{loose_names};
-ghost use Rattle.answer_classes.specs.Sayings.{IsSaidOrUnread};
+ghost use Rattle.class_marker.specs.LooseLists.{loose_names};
+ghost use Rattle.class_marker.specs.Sayings.{IsSaidOrUnread};
 ghost use Rattle.class_marker.specs.Markings.{IsContent};
 ghost use Rattle.command_words.specs.Commands.{sheet_named, texts};
 ghost use Rattle.command_words.specs.Commands as tasks;
@@ -26,8 +26,9 @@ use crate::paging::page_names;
 use crate::playing::LONGEST_MIDI;
 use crate::refusal::Refusal;
 use crate::work::{Output, Stop, Verdict};
-use answer_classes::{Said, WholeReport, put_said, read_loose_list, say, say_joined, whole};
-use class_marker::{ListFault, Text};
+use class_marker::{
+    ListFault, Said, Text, WholeReport, put_said, read_loose_list, say, say_joined, whole,
+};
 use command_words::FileKind;
 use fux_grid::Exercise;
 use fux_pitch::Memory;

@@ -4,7 +4,7 @@ use Rattle.std.specs.Option.{option_copied}
 use Rattle.std.proofs.lemmas.List.{length-map, length-take, take_all}
 use Rattle.fux_port.specs.Counts.{Rose}
 use Rattle.fux_port.proofs.Rises.{rose_later}
-use Rattle.answer_classes.specs.Reports.{IsReportOf, Saying}
+use Rattle.class_marker.specs.WholeReports.{IsReportOf, Saying}
 use Rattle.works.specs.WholeClasses.{AreSaid, limit_of, sought_in}
 use Rattle.works.specs.Works.{ReadsOrNot}
 use Rattle.works.proofs.LittleLemmas.{one_little}

@@ -3,7 +3,7 @@ use Rattle.std.specs.Prelude.{string_bytes}
 use Rattle.std.specs.Option.{option_copied}
 use Rattle.std.proofs.lemmas.List.{length-map}
 use Rattle.fux_port.specs.Counts.{Rose}
-use Rattle.answer_classes.specs.Reports.{IsReportOf, IsWholeOf, Saying}
+use Rattle.class_marker.specs.WholeReports.{IsReportOf, IsWholeOf, Saying}
 use Rattle.works.specs.WholeClasses.{sought_in}
 use Rattle.works.proofs.WholeLemmas.{by_copied, whole_is}
 use Rattle.works.proofs.gathering.told_names.Goals as goal

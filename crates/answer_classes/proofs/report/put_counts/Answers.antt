@@ -1,5 +1,0 @@
-use Rattle.std.proofs.Common.{append_assoc}
-use Rattle.answer_classes.proofs.report.put_counts.Goals as goal
-
-pub returns : goal.returns
-returns c = simp append_assoc c.in_ok-write.ensures.bytes

@@ -1,3 +1,0 @@
-pub mod LooseLists
-pub mod Reports
-pub mod Sayings
