@@ -4,3 +4,5 @@ pub mod AnsweringLemmas
 pub mod SectionLemmas
 pub mod LooseLineLemmas
 pub mod WholeReportLemmas
+pub mod EntryLemmas
+pub mod PageLemmas

@@ -9,3 +9,6 @@ pub mod Differences
 pub mod LooseLists
 pub mod WholeReports
 pub mod Sayings
+pub mod Entries
+pub mod Escapes
+pub mod Pages

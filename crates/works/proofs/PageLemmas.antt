@@ -6,11 +6,11 @@ use Rattle.std.specs.List.{AllZip}
 use Rattle.std.proofs.lemmas.List.{length-map, take_more}
 use Rattle.std.proofs.lemmas.Slice.Zip.{AllZip-long}
 use Rattle.class_marker.specs.declared.one.Text.{Text as Content}
-use Rattle.class_page.specs.declared.entry.Entry.{Entry}
-use Rattle.class_page.specs.declared.entry.Entry.TheVariants.{Setting, Faulty, Bare, Unread}
-use Rattle.class_page.specs.declared.page.ClassPage.{ClassPage}
-use Rattle.class_page.specs.Entries.{IsEntryOf, IsEntryOfText}
-use Rattle.class_page.specs.Pages.{IsPageSoFar, Named}
+use Rattle.class_marker.specs.declared.entry.Entry.{Entry}
+use Rattle.class_marker.specs.declared.entry.Entry.TheVariants.{Setting, Faulty, Bare, Unread}
+use Rattle.class_marker.specs.declared.page.ClassPage.{ClassPage}
+use Rattle.class_marker.specs.Entries.{IsEntryOf, IsEntryOfText}
+use Rattle.class_marker.specs.Pages.{IsPageSoFar, Named}
 use Rattle.fux_grid.specs.declared.exercise.Exercise.{Exercise}
 use Rattle.works.specs.declared.work.Output.{Output}
 use Rattle.works.specs.ClassPages.{ArePaged, IsClassPage, IsEntryIn, IsNamedIn, page_output}

@@ -1,11 +1,11 @@
 -- What `class` makes of the page of a class.
 use Rattle.std.specs.Prelude.{◌≡◌, ℕ, ◌⊎◌, Bool, List, Option, if◌then◌else◌}
 use Rattle.std.specs.List.{AllZip, list_all}
-use Rattle.class_page.specs.declared.entry.Entry.{Entry}
-use Rattle.class_page.specs.declared.entry.Entry.TheVariants.{Setting, Faulty, Bare, Unread}
-use Rattle.class_page.specs.declared.page.ClassPage.{ClassPage}
-use Rattle.class_page.specs.Entries.{IsEntryOfText}
-use Rattle.class_page.specs.Pages.{IsPageSoFar, Named, is_right, page_of}
+use Rattle.class_marker.specs.declared.entry.Entry.{Entry}
+use Rattle.class_marker.specs.declared.entry.Entry.TheVariants.{Setting, Faulty, Bare, Unread}
+use Rattle.class_marker.specs.declared.page.ClassPage.{ClassPage}
+use Rattle.class_marker.specs.Entries.{IsEntryOfText}
+use Rattle.class_marker.specs.Pages.{IsPageSoFar, Named, is_right, page_of}
 use Rattle.fux_grid.specs.declared.exercise.Exercise.{Exercise}
 use Rattle.fux_port.specs.Files.{IsMissing, MayHave}
 use Rattle.works.specs.declared.work.Output.{Output}

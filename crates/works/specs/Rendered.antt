@@ -2,7 +2,7 @@
 -- its setting in another form.
 use Rattle.std.specs.Prelude.{◌≡◌, ℕ, Bool, List, Option, None, Some, Ok, Err, length, map, nat_lt, option_map, if◌then◌else◌}
 use Rattle.std.specs.Borrow.{Bor}
-use Rattle.class_page.specs.Entries.{shown_mark}
+use Rattle.class_marker.specs.Entries.{shown_mark}
 use Rattle.fux_grid.specs.declared.exercise.Exercise.{Exercise}
 use Rattle.fux_grid.specs.Grid.{Grid}
 use Rattle.fux_judge.specs.Penalties.{penalty_of}

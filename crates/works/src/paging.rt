@@ -2,7 +2,7 @@
 
 ghost use Rattle.std.specs.Prelude.{◌≡◌, ◌+◌, ◌*◌, ◌≤◌, IfOk, List, length, map, string_bytes};
 ghost use Rattle.std.specs.Option.{ForSome, option_copied};
-ghost use Rattle.class_page.specs.Pages.{IsPageSoFar, Named};
+ghost use Rattle.class_marker.specs.Pages.{IsPageSoFar, Named};
 ghost use Rattle.fux_grid.specs.Exercises.{IsValid};
 ghost use Rattle.fux_port.specs.Counts.{Rose};
 ghost use Rattle.works.specs.ClassPages as words;
@@ -11,7 +11,7 @@ ghost use Rattle.works.specs.ClassPages.{ArePaged, IsClassPage, page_output, pag
 use crate::exercise::LONGEST_TEXT;
 use crate::gathering::content_or_none;
 use crate::work::{Output, Verdict};
-use class_page::{ClassPage, entry_of, put_entry, whole_page};
+use class_marker::{ClassPage, entry_of, put_entry, whole_page};
 use fux_grid::Exercise;
 use fux_pitch::Memory;
 use fux_port::Shelf;

@@ -9,7 +9,7 @@ ghost use Rattle.works.specs.Works.{Answers};
 use crate::charging::penalty_of;
 use crate::refusal::Refusal;
 use crate::work::{Output, Stop, Verdict};
-use class_page::shown_marks;
+use class_marker::shown_marks;
 use fux_grid::Exercise;
 use fux_pitch::Memory;
 use penalty_sheet::Sheet;

@@ -2,8 +2,8 @@ use Rattle.std.proofs.Common.{◌≤◌, ◌++◌, ◌∷◌, [], List, Ok, map,
 use Rattle.std.specs.Prelude.{string_bytes}
 use Rattle.std.specs.Option.{option_copied}
 use Rattle.std.proofs.lemmas.List.{length-map, length-take, take_all}
-use Rattle.class_page.specs.Entries.{IsEntryOf}
-use Rattle.class_page.specs.Pages.{IsPageSoFar, Named}
+use Rattle.class_marker.specs.Entries.{IsEntryOf}
+use Rattle.class_marker.specs.Pages.{IsPageSoFar, Named}
 use Rattle.fux_port.specs.Counts.{Rose}
 use Rattle.fux_port.proofs.Rises.{rose_later}
 use Rattle.works.specs.ClassPages.{ArePaged}

@@ -1,6 +1,0 @@
-use Rattle.std.proofs.Common.{◌≡◌, map, take}
-use Rattle.class_page.specs.Entries.{shown_mark}
-use Rattle.class_page.proofs.telling.shown_marks.Given as goal
-
-abbrev pub invariant-loop-mark : goal.invariant-loop-mark
-invariant-loop-mark l = l.shown.items ≡ map shown_mark (take l.mark-index l.marks)
