@@ -5,7 +5,7 @@ use Rattle.std.specs.Option.{option_map_or}
 use Rattle.std.proofs.lemmas.Bool.{cases_Bool}
 use Rattle.cert_text.specs.Lines.{IsClaim}
 use Rattle.cert_text.specs.declared.claim.Claim.TheVariants.{Open, Broken, Floor, TheScore}
-use Rattle.claim_writer.proofs.Fits.{claims-fit}
+use Rattle.cert_file.proofs.Fits.{claims-fit}
 use Rattle.fux_pitch.specs.declared.pitch.Pitch.{Pitch}
 use Rattle.cantus_space.specs.Broken.{rules_claimed}
 use Rattle.cantus_space.specs.Rules.{floor_of}

@@ -1,6 +1,6 @@
 -- The certificate that is written of a cantus.
 use Rattle.std.specs.Prelude.{ℕ, List, ◌++◌}
-use Rattle.claim_writer.specs.Writing.{claim_lines}
+use Rattle.cert_file.specs.Writing.{claim_lines}
 use Rattle.cantus_space.specs.declared.plan.CantusPlan.{CantusPlan}
 use Rattle.cantus_check.specs.Claims.{Said}
 use Rattle.cantus_check.specs.Writer.{claims_of}

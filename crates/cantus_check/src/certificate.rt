@@ -5,7 +5,7 @@ ghost use Rattle.cantus_check.specs.Certificates.{Holds, IsCantusCertificate};
 ghost use Rattle.cantus_check.specs.Writer.{claims_of};
 ghost use Rattle.cantus_check.specs.WrittenHeads.{said_with};
 ghost use Rattle.cantus_check.specs.Writing.{written_certificate};
-ghost use Rattle.claim_writer.specs.Ends.{EndsUnwritten, FailsShort};
+ghost use Rattle.cert_file.specs.Ends.{EndsUnwritten, FailsShort};
 ghost use Rattle.fux_port.specs.Counts.{Rose};
 ghost use Rattle.fux_port.specs.Written.{appended};
 
@@ -13,8 +13,8 @@ use crate::case::CantusCase;
 use crate::copy::case_of;
 use crate::head::cantus_head_text;
 use cantus_space::CantusSpace;
+use cert_file::write_with_claims;
 use cert_text::CertWrite;
-use claim_writer::write_with_claims;
 use fux_pitch::Pitch;
 use fux_port::Sink;
 use std::alloc::Global;

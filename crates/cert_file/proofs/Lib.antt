@@ -8,3 +8,6 @@ pub mod PieceLemmas
 pub mod StatedLemmas
 pub mod StatedTexts
 pub mod TextLemmas
+pub mod Fits
+pub mod KeptLemmas
+pub mod Wholes

@@ -5,3 +5,7 @@ pub mod Readings
 pub mod StatedReadings
 pub mod Subjects
 pub mod Verdicts
+pub mod Ends
+pub mod Kept
+pub mod Sources
+pub mod Writing

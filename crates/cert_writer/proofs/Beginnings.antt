@@ -8,7 +8,7 @@ use Rattle.cert_text.specs.declared.answers.Form.TheVariants.{First, Second, Thi
 use Rattle.cert_text.specs.declared.claim.Claim.{Claim}
 use Rattle.cert_writer.specs.Stages.{IsStage, first_stage, stage_text}
 use Rattle.cert_writer.specs.declared.lines.Stage.{Stage}
-use Rattle.claim_writer.specs.Writing.{claim_lines}
+use Rattle.cert_file.specs.Writing.{claim_lines}
 
 pub stage_there : (t : Matter) (form : Form) (stage : Stage) → stage ≡ first_stage form → IsStage t.exercise stage
 stage_there t First stage e = subst (λ (s : Stage). IsStage t.exercise s) (sym e) tt

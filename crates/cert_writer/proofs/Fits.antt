@@ -14,7 +14,7 @@ use Rattle.cert_law.specs.Claims.{has_break_of}
 use Rattle.cert_law.specs.Tails.{tail_of, used_floor}
 use Rattle.cert_law.specs.Writer.{claims_of, is_no_better, is_setting_of, least_break, unbroken_claim}
 use Rattle.cert_writer.specs.Writing.{own_claim}
-use Rattle.claim_writer.proofs.Fits.{claims-fit}
+use Rattle.cert_file.proofs.Fits.{claims-fit}
 use Rattle.fux_grid.specs.declared.cell.Cell.{Cell}
 use Rattle.fux_grid.specs.Exercises.{columns_in, greatest_rule}
 use Rattle.fux_judge.proofs.Ends.{from_none_below}

@@ -17,8 +17,8 @@ use Rattle.cert_law.specs.Certificates.{Holds}
 use Rattle.cert_law.specs.Claims.{longer_prefixes}
 use Rattle.cert_law.specs.Writer.{head_text, is_no_better, is_setting_of, least_break}
 use Rattle.cert_writer.proofs.Fits.{break_named, named_from_test}
-use Rattle.claim_writer.proofs.Fits.{claims-fit}
-use Rattle.claim_writer.specs.Writing.{HaveLines, claim_lines}
+use Rattle.cert_file.proofs.Fits.{claims-fit}
+use Rattle.cert_file.specs.Writing.{HaveLines, claim_lines}
 use Rattle.fux_grid.specs.declared.cell.Cell.{Cell}
 use Rattle.fux_grid.specs.declared.exercise.Exercise.{Exercise}
 use Rattle.fux_grid.specs.Exercises.{IsValid, columns_in}

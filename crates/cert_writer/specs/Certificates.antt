@@ -8,7 +8,7 @@ use Rattle.cert_text.specs.declared.answers.Form.TheVariants.{Third}
 use Rattle.cert_text.specs.declared.claim.Claim.{Claim}
 use Rattle.cert_text.specs.Lines.{IsClaim}
 use Rattle.cert_tree.specs.Trees.{IsCertifiedFrom, claims_from}
-use Rattle.claim_writer.specs.Writing.{claim_lines}
+use Rattle.cert_file.specs.Writing.{claim_lines}
 use Rattle.fux_grid.specs.declared.exercise.Exercise.{Exercise}
 use Rattle.fux_grid.specs.Exercises.{columns_in}
 use Rattle.fux_port.specs.Written.{StopsShort, appended}

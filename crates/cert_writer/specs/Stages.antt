@@ -13,7 +13,7 @@ use Rattle.cert_writer.specs.declared.lines.Lines.{Lines}
 use Rattle.cert_writer.specs.declared.lines.Stage.{Stage}
 use Rattle.cert_writer.specs.declared.lines.Stage.TheVariants.{Start, Column, Last, Claims}
 use Rattle.cert_writer.specs.Writing.{IsWriting, to_come}
-use Rattle.claim_writer.specs.Writing.{claim_lines}
+use Rattle.cert_file.specs.Writing.{claim_lines}
 use Rattle.fux_grid.specs.declared.exercise.Exercise.{Exercise}
 use Rattle.fux_grid.specs.Exercises.{columns_in}
 use Rattle.fux_grid.specs.Menus.{menu_of}

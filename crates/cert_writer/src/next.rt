@@ -6,15 +6,15 @@ ghost use Rattle.cert_tree.specs.Writing.{claims_with};
 ghost use Rattle.cert_text.specs.Lines.{IsClaim};
 ghost use Rattle.cert_writer.specs.Stages.{AreLines, IsStage, line_of, lines_left, stage_text};
 ghost use Rattle.cert_writer.specs.Writing.{IsTask, IsWriting, to_come};
-ghost use Rattle.claim_writer.specs.Sources.{lines_with};
+ghost use Rattle.cert_file.specs.Sources.{lines_with};
 
 use crate::entries::{column_entry, stage_after, stage_from, start_entry};
 use crate::lines::{Lines, Stage};
 use arrayvec::ArrayString;
+use cert_file::{LineSource, line_from};
 use cert_law::{Case, PrefixKnown, TailedCase};
 use cert_text::{Claim, write_claim, write_potential};
 use cert_tree::Walk;
-use claim_writer::{LineSource, line_from};
 use floor_tables::Tables;
 use menu_tails::MenuTails;
 

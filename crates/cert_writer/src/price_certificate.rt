@@ -11,8 +11,8 @@ ghost use Rattle.price_text.specs.Lists.{lists_text};
 ghost use Rattle.cert_writer.specs.Certificates.{EndsUnwritten, IsCut, IsOverlong, IsWhole, OfPriced};
 
 use crate::answers::PricesWrite;
+use cert_file::write_with_claims;
 use cert_text::CertWrite;
-use claim_writer::write_with_claims;
 use fux_port::Sink;
 use price_check::SharpCase;
 use std::alloc::Global;

@@ -6,7 +6,7 @@ use Rattle.cantus_check.proofs.WrittenCantus.{written_is_valid}
 use Rattle.cantus_space.specs.declared.plan.CantusPlan.{CantusPlan}
 use Rattle.cantus_check.specs.WrittenHeads.{said_with}
 use Rattle.cantus_check.specs.Writing.{written_certificate}
-use Rattle.claim_writer.specs.Ends.{FailsShort}
+use Rattle.cert_file.specs.Ends.{FailsShort}
 use Rattle.fux_port.specs.Written.{appended}
 use Rattle.cantus_check.proofs.certificate.certify_cantus.Goals as goal
 

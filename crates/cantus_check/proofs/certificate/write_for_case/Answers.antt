@@ -4,8 +4,8 @@ use Rattle.cert_text.specs.declared.answers.CertWrite.TheVariants.{TooLong, Writ
 use Rattle.cantus_check.specs.Writer.{claims_of}
 use Rattle.cantus_check.proofs.WrittenCantus.{all_true}
 use Rattle.cantus_check.proofs.Fits.{own_fits}
-use Rattle.claim_writer.specs.Ends.{EndsUnwritten, FailsShort}
-use Rattle.claim_writer.specs.Writing.{claim_lines}
+use Rattle.cert_file.specs.Ends.{EndsUnwritten, FailsShort}
+use Rattle.cert_file.specs.Writing.{claim_lines}
 use Rattle.fux_port.specs.Written.{appended}
 use Rattle.cantus_check.proofs.certificate.write_for_case.Goals as goal
 

@@ -7,7 +7,7 @@ use Rattle.cert_tree.specs.Walks.{IsWalk}
 use Rattle.cert_tree.specs.Writing.{AreTold, claims_to_come, claims_with}
 use Rattle.cert_writer.specs.Writing.{by_tables, own_claim, own_in, to_come}
 use Rattle.cert_writer.proofs.Fits.{own_fits}
-use Rattle.claim_writer.proofs.Fits.{next-fits, to_come-fit}
+use Rattle.cert_file.proofs.Fits.{next-fits, to_come-fit}
 use Rattle.cert_writer.proofs.next.next_claim.Goals as goal
 
 pub next_claim-requires-clause-walk : goal.next_claim-requires-clause-walk
