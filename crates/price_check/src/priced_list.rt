@@ -2,8 +2,7 @@
 
 ghost use Rattle.std.specs.Prelude.{◌≡◌};
 
-use open_ends::Keeps;
-use priced_floors::PricedSpace;
+use priced_floors::{Keeps, PricedSpace};
 
 /// A list, with the settings that it prices.
 #[derive(Drop)]

@@ -2,7 +2,7 @@
 
 use fux_grid::Cell;
 use fux_pitch::Pitch;
-use open_ends::{
+use priced_floors::{
     Both, OpenCadences, OpenLigature, OpenParallels, OpenPart, OpenPassing, OpenRuns, OpenShapes,
     OpenSuspensions, OpenTurns, Way, runs_ended,
 };
