@@ -13,7 +13,7 @@ use Rattle.fux_grid.specs.declared.exercise.Exercise.{Exercise}
 use Rattle.fux_grid.specs.Exercises.{IsValid}
 use Rattle.penalty_sheet.specs.declared.sheet.Sheet.{Sheet}
 use Rattle.price_check.specs.Statements.{HasLargeStated}
-use Rattle.price_text.specs.PriceLines.{Line}
+use Rattle.price_check.specs.PriceLines.{Line}
 
 first_other : First ≡ Third → ⊥
 first_other same = cc

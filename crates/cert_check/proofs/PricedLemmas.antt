@@ -38,9 +38,9 @@ use Rattle.priced_paths.specs.declared.states.WebFault.{WebFault}
 use Rattle.priced_paths.specs.declared.states.WebFault.TheVariants as woven
 use Rattle.price_check.specs.Stated.{AreEachStated, AreStated, StatedList, and_more, first_above, lists_of, price_in, prices_in}
 use Rattle.price_check.specs.PriceLists.{PriceList}
-use Rattle.price_text.specs.Lists.{AreLinesOf, AreLists, lists_text}
-use Rattle.price_text.specs.PriceLines.{Cases, Claims, Keeps, Line, Price, after}
-use Rattle.price_text.specs.declared.line.Before.{Before}
+use Rattle.price_check.specs.Lists.{AreLinesOf, AreLists, lists_text}
+use Rattle.price_check.specs.PriceLines.{Cases, Claims, Keeps, Line, Price, after}
+use Rattle.price_check.specs.declared.line.Before.{Before}
 
 -- ---- where lists stop
 

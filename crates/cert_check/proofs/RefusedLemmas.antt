@@ -39,7 +39,7 @@ use Rattle.cert_text.proofs.PieceLemmas.{Alone}
 use Rattle.fux_grid.specs.declared.exercise.Exercise.{Exercise}
 use Rattle.fux_grid.specs.Exercises.{IsValid}
 use Rattle.penalty_sheet.specs.declared.sheet.Sheet.{Sheet}
-use Rattle.price_text.specs.Lists.{lists_text, most_lines}
+use Rattle.price_check.specs.Lists.{lists_text, most_lines}
 
 -- ---- one opening stands at the front of bytes
 

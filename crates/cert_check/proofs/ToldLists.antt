@@ -20,9 +20,9 @@ use Rattle.fux_grid.specs.declared.exercise.Exercise.{Exercise}
 use Rattle.fux_grid.specs.Exercises.{IsValid}
 use Rattle.penalty_sheet.specs.declared.sheet.Sheet.{Sheet}
 use Rattle.price_check.specs.Stated.{first_high}
-use Rattle.price_text.specs.Lists.{AreLists, lists_in, lists_text, most_lines}
-use Rattle.price_text.specs.PriceLines.{Line}
-use Rattle.price_text.proofs.WholeLists.{lists_are_read}
+use Rattle.price_check.specs.Lists.{AreLists, lists_in, lists_text, most_lines}
+use Rattle.price_check.specs.PriceLines.{Line}
+use Rattle.price_check.proofs.WholeLists.{lists_are_read}
 
 -- what stands at the front of bytes, by its length
 pub front_of : (bytes xs ys : List ℕ) → bytes ≡ xs ++ ys → take (length xs) bytes ≡ xs

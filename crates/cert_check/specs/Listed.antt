@@ -15,8 +15,8 @@ use Rattle.penalty_sheet.specs.declared.sheet.Sheet.{Sheet}
 use Rattle.priced_paths.specs.declared.states.WebFault.{WebFault}
 use Rattle.priced_paths.specs.declared.states.WebFault.TheVariants as woven
 use Rattle.price_check.specs.Stated.{AreDue, first_high}
-use Rattle.price_text.specs.Lists.{AreLists, lists_in, lists_text}
-use Rattle.price_text.specs.PriceLines.{Line}
+use Rattle.price_check.specs.Lists.{AreLists, lists_in, lists_text}
+use Rattle.price_check.specs.PriceLines.{Line}
 
 -- lists stood at the front of what was read and not used, and were used
 pub record AreTaken (ex : Exercise) (lines : List Line) (old new : Piece) : Type 0 where

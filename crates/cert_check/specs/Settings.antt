@@ -33,8 +33,8 @@ use Rattle.fux_port.specs.Files.{HasFile}
 use Rattle.penalty_sheet.specs.declared.sheet.Sheet.{Sheet}
 use Rattle.price_check.specs.Statements.{HasLargeStated, stated_tree}
 use Rattle.price_check.specs.Stated.{AreDue, first_high}
-use Rattle.price_text.specs.Lists.{AreLists, lists_in, lists_text}
-use Rattle.price_text.specs.PriceLines.{Line}
+use Rattle.price_check.specs.Lists.{AreLists, lists_in, lists_text}
+use Rattle.price_check.specs.PriceLines.{Line}
 
 -- what an accepted head shows
 abbrev pub accepted_of : CertHead → Accepted

@@ -12,8 +12,8 @@ ghost use Rattle.cert_file.specs.Subjects.{IsOpened};
 ghost use Rattle.floor_tables.specs.Tables.{AreNarrow};
 ghost use Rattle.fux_grid.specs.Exercises.{IsValid};
 ghost use Rattle.fux_port.specs.Promises.{ServesWhole};
-ghost use Rattle.price_text.specs.Lists.{AreLists};
-ghost use Rattle.price_text.specs.PriceLines.{line_of};
+ghost use Rattle.price_check.specs.Lists.{AreLists};
+ghost use Rattle.price_check.specs.PriceLines.{line_of};
 
 use crate::checking::{CheckFault, not_filled, not_started};
 use crate::head::is_sound;
@@ -26,9 +26,9 @@ use fux_port::{Failed, Shelf};
 use menu_tails::MenuTails;
 use penalty_sheet::Sheet;
 use price_check::{
-    SharpCase, first_high, list_floors, list_numbers, lists_stated, priced_lists, webs_of,
+    ListsFault, PriceLine, SharpCase, first_high, list_floors, list_numbers, lists_in, lists_stated,
+    priced_lists, webs_of,
 };
-use price_text::{ListsFault, PriceLine, lists_in};
 use species_space::SpeciesSpace;
 use std::alloc::Global;
 use std::thread::Threads;

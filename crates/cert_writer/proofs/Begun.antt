@@ -8,11 +8,11 @@ use Rattle.fux_grid.specs.declared.exercise.Exercise.{Exercise}
 use Rattle.penalty_sheet.specs.declared.sheet.Sheet.{Sheet}
 use Rattle.penalty_sheet.specs.Weights.{weight_of}
 use Rattle.price_check.specs.Stated.{first_above, prices_in}
-use Rattle.price_text.specs.declared.line.Before.{Before}
-use Rattle.price_text.specs.declared.line.PriceLine.{PriceLine}
-use Rattle.price_text.specs.Lists.{AreLinesOf, is_last}
-use Rattle.price_text.specs.PriceLines.{Keeps, Cases, Price, Claims, AreFalling, Fits, Line, after, line_of, nothing_before}
-use Rattle.price_text.proofs.WholeLists.{lists_few}
+use Rattle.price_check.specs.declared.line.Before.{Before}
+use Rattle.price_check.specs.declared.line.PriceLine.{PriceLine}
+use Rattle.price_check.specs.Lists.{AreLinesOf, is_last}
+use Rattle.price_check.specs.PriceLines.{Keeps, Cases, Price, Claims, AreFalling, Fits, Line, after, line_of, nothing_before}
+use Rattle.price_check.proofs.WholeLists.{lists_few}
 use Rattle.priced_floors.specs.declared.charges.TheConstants.{SCALE}
 use Rattle.cert_writer.specs.declared.stating.Stating.{Stating}
 use Rattle.cert_writer.specs.Stating.{AreBegun, CanBeStated, IsStating, IsWithin, behind}

@@ -3,7 +3,7 @@ use Rattle.std.proofs.Common.{◌≡◌, ℕ, ◌≤◌, List, length, refl, ari
 use Rattle.fux_grid.specs.declared.exercise.Exercise.{Exercise}
 use Rattle.cert_writer.specs.Stating.{FitBehind, least_list}
 use Rattle.penalty_sheet.specs.declared.sheet.Sheet.{Sheet}
-use Rattle.price_text.specs.Lists.{lists_text}
+use Rattle.price_check.specs.Lists.{lists_text}
 
 least_short : length (lists_text least_list) ≡ 13
 least_short = refl

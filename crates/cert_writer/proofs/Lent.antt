@@ -15,7 +15,7 @@ use Rattle.price_check.specs.PriceLists.{PriceList}
 use Rattle.price_check.specs.declared.stated.OwnList.{OwnList}
 use Rattle.price_check.specs.Owned.{list_owned}
 use Rattle.price_check.specs.Stated.{AreStated}
-use Rattle.price_text.specs.PriceLines.{Line}
+use Rattle.price_check.specs.PriceLines.{Line}
 use Rattle.priced_floors.specs.declared.kept.Kept.{Kept}
 use Rattle.priced_paths.specs.declared.web.Web.{Web}
 use Rattle.cert_writer.specs.Certificates.{web_answer}

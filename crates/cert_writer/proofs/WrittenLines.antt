@@ -30,10 +30,10 @@ use Rattle.price_check.specs.Certificates.{sharp_tree}
 use Rattle.price_check.specs.PriceLists.{PriceList, sharp_floor}
 use Rattle.price_check.specs.Truths.{sharp_first_claim, sharp_unbroken}
 use Rattle.price_check.specs.Stated.{AreEachStated, AreStated, StatedList, lists_of}
-use Rattle.price_text.proofs.WholeLists.{lists_few}
-use Rattle.price_text.specs.declared.line.Before.{Before}
-use Rattle.price_text.specs.Lists.{AreLinesOf, AreLists, lists_text}
-use Rattle.price_text.specs.PriceLines.{Keeps, Cases, Price, Claims, Line, after, nothing_before}
+use Rattle.price_check.proofs.WholeLists.{lists_few}
+use Rattle.price_check.specs.declared.line.Before.{Before}
+use Rattle.price_check.specs.Lists.{AreLinesOf, AreLists, lists_text}
+use Rattle.price_check.specs.PriceLines.{Keeps, Cases, Price, Claims, Line, after, nothing_before}
 use Rattle.cert_writer.proofs.Written.{all_true}
 use Rattle.cert_writer.specs.Certificates.{IsPricedCertificateOf, with_claims}
 

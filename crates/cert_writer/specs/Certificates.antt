@@ -20,8 +20,8 @@ use Rattle.price_check.specs.Sharps.{Sharp, own_in, tree_in}
 use Rattle.price_check.specs.Statements.{HasLargeStated, stated_tree}
 use Rattle.priced_paths.specs.declared.states.WebFault.{WebFault}
 use Rattle.priced_paths.specs.declared.states.WebFault.TheVariants as webs
-use Rattle.price_text.specs.Lists.{lists_text}
-use Rattle.price_text.specs.PriceLines.{Line}
+use Rattle.price_check.specs.Lists.{lists_text}
+use Rattle.price_check.specs.PriceLines.{Line}
 use Rattle.cert_writer.specs.declared.answers.PricesWrite.{PricesWrite}
 use Rattle.cert_writer.specs.declared.answers.PricesWrite.TheVariants.{Memory, TooLarge, TooLong}
 

@@ -5,9 +5,9 @@ use Rattle.fux_grid.specs.declared.exercise.Exercise.{Exercise}
 use Rattle.penalty_sheet.specs.declared.sheet.Sheet.{Sheet}
 use Rattle.penalty_sheet.specs.Weights.{weight_of}
 use Rattle.price_check.specs.Stated.{AreDue}
-use Rattle.price_text.specs.declared.line.Before.{Before}
-use Rattle.price_text.specs.Lists.{AreLists, is_last, lists_text}
-use Rattle.price_text.specs.PriceLines.{Keeps, Cases, Price, Claims, Fits, Line, after, line_of, nothing_before}
+use Rattle.price_check.specs.declared.line.Before.{Before}
+use Rattle.price_check.specs.Lists.{AreLists, is_last, lists_text}
+use Rattle.price_check.specs.PriceLines.{Keeps, Cases, Price, Claims, Fits, Line, after, line_of, nothing_before}
 use Rattle.priced_floors.specs.declared.charges.TheConstants.{SCALE}
 use Rattle.cert_writer.specs.declared.stating.Stating.{Stating}
 

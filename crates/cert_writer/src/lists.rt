@@ -1,8 +1,8 @@
 //! The lines of the lists that a certificate states.
 
 ghost use Rattle.std.specs.Prelude.{◌≡◌, ◌++◌, IfOk, IfSome, OnOk, map, string_bytes};
-ghost use Rattle.price_text.specs.Lists.{lists_text};
-ghost use Rattle.price_text.specs.PriceLines.{line_of};
+ghost use Rattle.price_check.specs.Lists.{lists_text};
+ghost use Rattle.price_check.specs.PriceLines.{line_of};
 ghost use Rattle.cert_writer.specs.Stating.{CanBeStated, FitBehind, IsStating, least_list};
 
 use crate::stating::Stating;
@@ -10,8 +10,8 @@ use fux_grid::Exercise;
 use fux_pitch::{Memory, Pitch};
 use melody_rules::place_of;
 use penalty_sheet::Sheet;
+use price_check::{Keys, PriceLine, put_lists};
 use price_rounds::Tuned;
-use price_text::{Keys, PriceLine, put_lists};
 use priced_floors::{PITCHES, Prices};
 use std::alloc::Global;
 

@@ -7,7 +7,7 @@ ghost use Rattle.cert_text.specs.declared.answers.Form.TheVariants.{Third};
 ghost use Rattle.fux_port.specs.Promises.{Fails};
 ghost use Rattle.cert_writer.specs.Stating.{FitBehind};
 ghost use Rattle.price_check.specs.Statements.{HasLargeStated};
-ghost use Rattle.price_text.specs.Lists.{lists_text};
+ghost use Rattle.price_check.specs.Lists.{lists_text};
 ghost use Rattle.cert_writer.specs.Certificates.{EndsUnwritten, IsCut, IsOverlong, IsWhole, OfPriced};
 
 use crate::answers::PricesWrite;

@@ -8,7 +8,7 @@ ghost use Rattle.fux_port.specs.Promises.{Fails};
 ghost use Rattle.cert_writer.specs.Stating.{FitBehind};
 ghost use Rattle.price_check.specs.Woven.{IsLargeWeb};
 ghost use Rattle.price_check.specs.Statements.{HasLargeStated};
-ghost use Rattle.price_text.specs.PriceLines.{line_of};
+ghost use Rattle.price_check.specs.PriceLines.{line_of};
 ghost use Rattle.cert_writer.specs.Certificates.{EndsUnwritten, IsCut, IsOverlong, IsWhole, OfPriced, least_kept, longest_head};
 
 use crate::answers::PricesWrite;
@@ -23,10 +23,10 @@ use fux_pitch::Memory;
 use fux_port::Sink;
 use menu_tails::MenuTails;
 use price_check::{
-    SharpCase, list_floors, list_numbers, lists_are_fit, lists_stated, priced_lists, webs_of,
+    PriceLine, SharpCase, list_floors, list_numbers, lists_are_fit, lists_stated, priced_lists,
+    webs_of,
 };
 use price_rounds::tuned_prices;
-use price_text::PriceLine;
 use species_space::SpeciesSpace;
 use std::alloc::Global;
 use std::thread::Threads;

@@ -3,16 +3,16 @@
 ghost use Rattle.std.specs.Prelude.{◌≡◌, ◌≤◌, ◌*◌, false, IfOk, OnOk, map};
 ghost use Rattle.std.specs.Bool.{OnTrue};
 ghost use Rattle.penalty_sheet.specs.Weights.{greatest_toll, weight_of};
-ghost use Rattle.price_text.specs.Lists.{is_last};
-ghost use Rattle.price_text.specs.PriceLines as lines;
-ghost use Rattle.price_text.specs.PriceLines.{AreFalling, Fits, is_free_voice, line_of, most_price};
+ghost use Rattle.price_check.specs.Lists.{is_last};
+ghost use Rattle.price_check.specs.PriceLines as lines;
+ghost use Rattle.price_check.specs.PriceLines.{AreFalling, Fits, is_free_voice, line_of, most_price};
 ghost use Rattle.cert_writer.specs.Stating.{CanBeStated, IsStating, IsWithin};
 ghost use Rattle.priced_floors.specs.declared.charges.TheConstants.{SCALE};
 
 use fux_grid::Exercise;
 use fux_pitch::{Memory, Pitch};
 use penalty_sheet::{Sheet, weight};
-use price_text::{Before, PriceLine, after, price_place};
+use price_check::{Before, PriceLine, after, price_place};
 use priced_floors::SCALE;
 use std::alloc::Global;
 

@@ -6,7 +6,7 @@ use Rattle.std.specs.List.{AllByRecursion, range_with_len}
 use Rattle.std.proofs.lemmas.Bool.{cases_lt, ltb-false}
 use Rattle.std.proofs.lemmas.List.{get_or_past}
 use Rattle.std.proofs.lemmas.List.FromFn.{get_or-map-range_with_len, length-map-range_with_len}
-use Rattle.price_text.specs.PriceLines.{Cases, Claims, Keeps, Line, Price}
+use Rattle.price_check.specs.PriceLines.{Cases, Claims, Keeps, Line, Price}
 use Rattle.price_check.specs.Owned.{AreKeys}
 use Rattle.price_check.specs.Stated.{StatedList, all_prices, charge_at, first_above, first_told, has_price, is_price_of, lists_of, or_later, price_at, price_told, prices_at, prices_in, summits_from, told_or}
 use Rattle.priced_floors.specs.declared.prices.Prices.{Prices}

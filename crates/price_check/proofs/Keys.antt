@@ -4,9 +4,9 @@ use Rattle.std.specs.List.{AllByRecursion}
 use Rattle.fux_grid.specs.declared.exercise.Exercise.{Exercise}
 use Rattle.price_check.specs.Laws.{ListsHaveKeys}
 use Rattle.price_check.specs.Owned.{AreKeys}
-use Rattle.price_text.specs.declared.line.Before.{Before}
-use Rattle.price_text.specs.Lists.{AreLinesOf}
-use Rattle.price_text.specs.PriceLines.{AreFalling, Cases, Claims, Fits, Keeps, Line, Price, after, nothing_before}
+use Rattle.price_check.specs.declared.line.Before.{Before}
+use Rattle.price_check.specs.Lists.{AreLinesOf}
+use Rattle.price_check.specs.PriceLines.{AreFalling, Cases, Claims, Fits, Keeps, Line, Price, after, nothing_before}
 
 falling-low : (high most top : ℕ) (keys : List ℕ) → AreFalling high most keys → high ≤ top
     → AllByRecursion (λ key. key < top) keys

@@ -13,7 +13,7 @@ use Rattle.price_check.specs.PriceLists.{PriceList}
 use Rattle.price_check.specs.declared.stated.OwnList.{OwnList}
 use Rattle.price_check.specs.Owned.{list_owned}
 use Rattle.price_check.specs.Stated.{AreEachStated, AreStated, StatedList, lists_of}
-use Rattle.price_text.specs.PriceLines.{Line}
+use Rattle.price_check.specs.PriceLines.{Line}
 
 stated-one : (x y : StatedList) → Some x ≡ Some y → x ≡ y
 stated-one x y e = cc

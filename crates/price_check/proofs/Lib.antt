@@ -13,3 +13,8 @@ pub mod Ways
 pub mod ListSums
 pub mod Excluded
 pub mod TailTruths
+pub mod WordLaws
+pub mod WrittenLines
+pub mod ReadLines
+pub mod KeySteps
+pub mod WholeLists

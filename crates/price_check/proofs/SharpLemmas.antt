@@ -35,7 +35,7 @@ use Rattle.price_check.specs.Truths.{sharp_first_claim, sharp_unbroken}
 use Rattle.price_check.proofs.Ways.{numbers_from-append}
 use Rattle.price_check.specs.Laws.{StatedFloorsAreOne}
 use Rattle.price_check.specs.Stated.{AreStated}
-use Rattle.price_text.specs.PriceLines.{Line}
+use Rattle.price_check.specs.PriceLines.{Line}
 use Rattle.priced_paths.specs.Stands.{StandsAt}
 use Rattle.price_check.specs.declared.floors.ListFloor.{ListFloor}
 use Rattle.price_check.specs.Floors.{AreFor, ArePlaces, list_of}

@@ -5,9 +5,9 @@ use Rattle.std.specs.List.{AllByRecursion}
 use Rattle.std.proofs.lemmas.Bool.{lt-ltb, le-ltb}
 use Rattle.std.proofs.Math.ListN.{drop_of_length-le}
 use Rattle.std.proofs.lemmas.List.{drop_more, take_all}
-use Rattle.price_text.specs.declared.line.PriceLine.{PriceLine}
-use Rattle.price_text.specs.declared.line.PriceLine.TheVariants as own
-use Rattle.price_text.specs.PriceLines.{Cases, Claims, Keeps, Line, Price, line_of}
+use Rattle.price_check.specs.declared.line.PriceLine.{PriceLine}
+use Rattle.price_check.specs.declared.line.PriceLine.TheVariants as own
+use Rattle.price_check.specs.PriceLines.{Cases, Claims, Keeps, Line, Price, line_of}
 use Rattle.price_check.specs.PriceLists.{PriceList}
 use Rattle.penalty_sheet.specs.declared.sheet.Sheet.{Sheet}
 use Rattle.price_check.specs.Owned.{AreKeys}

@@ -8,8 +8,8 @@ use Rattle.penalty_sheet.specs.declared.sheet.Sheet.{Sheet}
 use Rattle.price_check.specs.PriceLists.{PriceList, sharp_floor}
 use Rattle.price_check.specs.Owned.{AreKeys, IsFit}
 use Rattle.price_check.specs.Stated.{AreDue, AreStated}
-use Rattle.price_text.specs.Lists.{AreLists}
-use Rattle.price_text.specs.PriceLines.{Line}
+use Rattle.price_check.specs.Lists.{AreLists}
+use Rattle.price_check.specs.PriceLines.{Line}
 
 -- the lines of whole lists have such keys
 abbrev pub ListsHaveKeys : Type 0

@@ -8,3 +8,7 @@ pub mod Laws
 pub mod PriceLists
 pub mod Certificates
 pub mod Truths
+pub mod PriceLines
+pub mod Reading
+pub mod LineLaws
+pub mod Lists

@@ -5,7 +5,7 @@ use Rattle.penalty_sheet.specs.declared.sheet.Sheet.{Sheet}
 use Rattle.price_check.specs.declared.stated.OwnList.{OwnList}
 use Rattle.price_check.specs.Certificates.{IsFairList}
 use Rattle.price_check.specs.PriceLists.{PriceList}
-use Rattle.price_text.specs.PriceLines.{Cases, Claims, Keeps, Line, Price}
+use Rattle.price_check.specs.PriceLines.{Cases, Claims, Keeps, Line, Price}
 use Rattle.priced_floors.specs.declared.charges.TheConstants.{CASES, MOST_CHARGE, SCALE}
 use Rattle.priced_floors.specs.Charges.{AreSmallCharges}
 

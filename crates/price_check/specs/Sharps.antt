@@ -23,7 +23,7 @@ use Rattle.price_check.specs.Statements.{IsStatedTrueOf, stated_tree}
 use Rattle.price_check.specs.PriceLists.{PriceList, case_in, path_of, sharp_tail}
 use Rattle.price_check.specs.Truths.{sharp_first_claim}
 use Rattle.price_check.specs.Stated.{AreStated}
-use Rattle.price_text.specs.PriceLines.{Line}
+use Rattle.price_check.specs.PriceLines.{Line}
 
 -- a list, and the web in which its numbers were worked
 pub record Webbed : Type 0 where

@@ -7,7 +7,7 @@ use Rattle.priced_floors.specs.Choices.{keeps_of}
 use Rattle.penalty_sheet.specs.declared.sheet.Sheet.{Sheet}
 use Rattle.penalty_sheet.specs.Weights.{weight_of}
 use Rattle.price_check.specs.PriceLists.{PriceList}
-use Rattle.price_text.specs.PriceLines.{Cases, Claims, Keeps, Line, Price}
+use Rattle.price_check.specs.PriceLines.{Cases, Claims, Keeps, Line, Price}
 use Rattle.priced_floors.specs.declared.charges.TheConstants.{SCALE}
 use Rattle.priced_floors.specs.declared.prices.Prices.{Prices}
 use Rattle.priced_floors.specs.declared.prices.TheConstants.{PITCHES}

@@ -14,7 +14,7 @@ use Rattle.price_check.specs.Woven.{IsLargeWeb}
 use Rattle.price_check.specs.Certificates.{IsSharpTrueOf}
 use Rattle.price_check.specs.PriceLists.{PriceList}
 use Rattle.price_check.specs.Stated.{AreStated, StatedList, lists_of}
-use Rattle.price_text.specs.PriceLines.{Line}
+use Rattle.price_check.specs.PriceLines.{Line}
 
 -- a claim is true of a prefix by the lists that lines state
 pub record IsStatedTrueOf (ex : Exercise) (sheet : Sheet) (head : CertHead) (lines : List Line) (p : List (List Cell))

@@ -5,18 +5,30 @@
 #![tactic(auto)]
 
 mod floors;
+mod line;
+mod line_law;
 mod list_law;
+mod lists;
 mod price_law;
 mod priced_list;
+mod reading;
 mod sharp_case;
 mod stated;
+mod words;
 mod woven;
+mod writing;
 
 pub use floors::{ListFloor, MOST_LISTS};
+pub use line::{Before, Keys, PriceLine};
+pub use line_law::{lines_are_read, lists_are_read};
 pub use list_law::lists_are_fit;
+pub use lists::{ListsFault, after, lists_in, put_lists};
 pub use price_law::{lists_give_floors, shown_by_prices, tails_give_floors, tails_tell_truth};
 pub use priced_list::PricedList;
 pub use priced_paths::WebFault;
+pub use reading::line_in;
 pub use sharp_case::{SharpCase, SharpKnown};
 pub use stated::{OwnList, first_high, lists_stated};
+pub use words::price_place;
 pub use woven::{list_floors, list_numbers, priced_lists, webs_of};
+pub use writing::put_line;

@@ -9,14 +9,14 @@ ghost use Rattle.price_check.specs.Floors.{AreFor, list_of};
 ghost use Rattle.price_check.specs.Sharps.{IsSharpKnown, IsStepOf, lists_in, own_in, tree_in, webbed};
 ghost use Rattle.price_check.specs.declared.floors.TheConstants.{MOST_LISTS};
 ghost use Rattle.price_check.specs.Stated.{AreStated};
-ghost use Rattle.price_text.specs.PriceLines.{line_of};
+ghost use Rattle.price_check.specs.PriceLines.{line_of};
 
 use crate::floors::{ListFloor, MOST_LISTS, first_places, next_places, tail_by};
+use crate::line::PriceLine;
 use cert_law::{Case, PrefixKnown, TailedCase, first_claim, is_open, is_true};
 use cert_text::{CertHead, Claim};
 use cert_tree::ClaimTree;
 use menu_tails::MenuTails;
-use price_text::PriceLine;
 use priced_paths::Place;
 use std::marker::Model;
 
@@ -42,7 +42,7 @@ impl<'a, 'f> Model for SharpCase<'a, 'f> {
     ghost use Rattle.std.specs.Prelude.{map};
     ghost use Rattle.cert_law.specs.Cases.{matter_of};
     ghost use Rattle.price_check.specs.Sharps.{IsSharp, Sharp, webbed};
-    ghost use Rattle.price_text.specs.PriceLines.{line_of};
+    ghost use Rattle.price_check.specs.PriceLines.{line_of};
 
     ghost Value = { Sharp };
 

@@ -6,13 +6,13 @@ ghost use Rattle.penalty_sheet.specs.Weights.{weight_of};
 ghost use Rattle.price_check.specs.Stated as words;
 ghost use Rattle.price_check.specs.Stated.{AreStated, IsStated};
 ghost use Rattle.price_check.specs.Owned.{AreKeys, list_owned};
-ghost use Rattle.price_text.specs.PriceLines.{line_of};
+ghost use Rattle.price_check.specs.PriceLines.{line_of};
 ghost use Rattle.priced_floors.specs.declared.charges.TheConstants.{SCALE};
 
+use crate::line::PriceLine;
 use fux_pitch::Memory;
 use melody_rules::place_of;
 use penalty_sheet::{Sheet, weight};
-use price_text::PriceLine;
 use priced_floors::{Charges, Keeps, PITCHES, Prices, SCALE, Summit};
 use std::alloc::Global;
 

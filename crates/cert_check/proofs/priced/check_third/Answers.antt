@@ -13,8 +13,8 @@ use Rattle.cert_file.specs.declared.fault.ReadFault.TheVariants.{Text}
 use Rattle.cert_file.specs.declared.verdict.Verdict.{Verdict}
 use Rattle.fux_port.specs.Counts.{Rose}
 use Rattle.fux_port.specs.Promises.{ServesWhole}
-use Rattle.price_text.specs.declared.line.PriceLine.{PriceLine}
-use Rattle.price_text.specs.PriceLines.{line_of}
+use Rattle.price_check.specs.declared.line.PriceLine.{PriceLine}
+use Rattle.price_check.specs.PriceLines.{line_of}
 use Rattle.cert_check.proofs.priced.check_third.Goals as goal
 
 pub returns-in-Err-clause-judged : goal.returns-in-Err-clause-judged

@@ -33,7 +33,7 @@ use Rattle.price_check.specs.Statements.{HasLargeStated}
 use Rattle.priced_paths.specs.declared.states.WebFault.TheVariants.{TooLarge}
 use Rattle.price_check.proofs.Fit.{lists_fit}
 use Rattle.price_check.proofs.Keys.{lists_have_keys}
-use Rattle.price_text.specs.PriceLines.{line_of}
+use Rattle.price_check.specs.PriceLines.{line_of}
 use Rattle.cert_check.proofs.priced.judge_lists.Goals as goal
 
 pub lists_stated-requires : goal.lists_stated-requires

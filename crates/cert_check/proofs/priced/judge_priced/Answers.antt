@@ -10,7 +10,7 @@ use Rattle.cert_file.specs.declared.verdict.Verdict.{Verdict}
 use Rattle.cert_file.specs.declared.verdict.Verdict.TheVariants as verdict
 use Rattle.fux_port.specs.Counts.{Rose}
 use Rattle.fux_port.specs.Promises.{ServesWhole}
-use Rattle.price_text.specs.PriceLines.{line_of}
+use Rattle.price_check.specs.PriceLines.{line_of}
 use Rattle.cert_file.proofs.NearLemmas.{each_verdict}
 use Rattle.floor_tables.specs.Tables.{AreNarrow, Task}
 use Rattle.cert_check.proofs.priced.judge_priced.Goals as goal

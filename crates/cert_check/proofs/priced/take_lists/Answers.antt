@@ -1,8 +1,8 @@
 use Rattle.std.proofs.Common.{◌-◌, ◌++◌, ap, arith, drop, length, length-append, map, sym, ◌∙◌}
 use Rattle.cert_file.specs.Readings.{Piece}
-use Rattle.price_text.specs.Lists.{lists_text}
-use Rattle.price_text.specs.PriceLines.{line_of}
-use Rattle.price_text.proofs.WholeLists.{read_lists_fit}
+use Rattle.price_check.specs.Lists.{lists_text}
+use Rattle.price_check.specs.PriceLines.{line_of}
+use Rattle.price_check.proofs.WholeLists.{read_lists_fit}
 use Rattle.cert_check.proofs.PricedLemmas.{used_up}
 use Rattle.cert_check.proofs.priced.take_lists.Goals as goal
 

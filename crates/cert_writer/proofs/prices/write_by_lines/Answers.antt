@@ -15,8 +15,8 @@ use Rattle.price_check.specs.Floors.{AreFor, list_of}
 use Rattle.price_check.specs.Woven.{AreOf, list_priced}
 use Rattle.price_check.specs.declared.stated.OwnList.{OwnList}
 use Rattle.price_check.specs.Owned.{IsFit, list_owned}
-use Rattle.price_text.specs.Lists.{lists_text}
-use Rattle.price_text.specs.PriceLines.{line_of}
+use Rattle.price_check.specs.Lists.{lists_text}
+use Rattle.price_check.specs.PriceLines.{line_of}
 use Rattle.cert_writer.proofs.Lent.{floors_stated, large_web, same_numbers, same_webs}
 use Rattle.cert_writer.proofs.WrittenLines.{eight_lists}
 use Rattle.cert_writer.proofs.prices.write_by_lines.Goals as goal

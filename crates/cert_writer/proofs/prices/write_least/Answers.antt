@@ -2,7 +2,7 @@ use Rattle.std.proofs.Common.{List, map, ap, sym, subst, ◌∙◌}
 use Rattle.cert_writer.proofs.Least.{least_fits}
 use Rattle.cert_writer.specs.Stating.{FitBehind}
 use Rattle.price_check.specs.Statements.{HasLargeStated}
-use Rattle.price_text.specs.PriceLines.{Line, line_of}
+use Rattle.price_check.specs.PriceLines.{Line, line_of}
 use Rattle.cert_writer.proofs.Heads.{least_large}
 use Rattle.cert_writer.proofs.prices.write_least.Goals as goal
 

@@ -1,5 +1,5 @@
 use Rattle.std.proofs.Common.{◌≡◌, ◌≤◌, ◌*◌, length, map}
-use Rattle.price_text.specs.PriceLines.{line_of}
+use Rattle.price_check.specs.PriceLines.{line_of}
 use Rattle.std.specs.Prelude.{◌/◌, ◌%◌, vec_capacity}
 use Rattle.std.specs.List.{range_with_len}
 use Rattle.price_check.specs.Stated.{prices_at}

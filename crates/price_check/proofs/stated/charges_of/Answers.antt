@@ -1,5 +1,5 @@
 use Rattle.std.proofs.Common.{ℕ, List, length, map, ap, arith}
-use Rattle.price_text.specs.PriceLines.{line_of}
+use Rattle.price_check.specs.PriceLines.{line_of}
 use Rattle.price_check.proofs.Told.{cases_few, cases_low}
 use Rattle.price_check.proofs.stated.charges_of.Goals as goal
 

@@ -1,5 +1,5 @@
 use Rattle.std.proofs.Common.{◌≡◌, ◌+◌, ℕ, Some, map, option_map, ap, sym, ◌∙◌, arith}
-use Rattle.price_text.specs.PriceLines.{line_of}
+use Rattle.price_check.specs.PriceLines.{line_of}
 use Rattle.price_check.specs.Stated.{first_above, prices_in}
 use Rattle.price_check.proofs.Told.{above, counted, high_price, low_price, no_price, no_prices}
 use Rattle.price_check.proofs.stated.first_high.Goals as goal

@@ -1,6 +1,6 @@
 use Rattle.std.proofs.Common.{ℕ, List, not, map, ap, ◌∙◌, arith}
 use Rattle.std.specs.Prelude.{◌&&◌}
-use Rattle.price_text.specs.PriceLines.{line_of}
+use Rattle.price_check.specs.PriceLines.{line_of}
 use Rattle.price_check.specs.Stated.{has_no_keys, has_price}
 use Rattle.price_check.proofs.Told.{not_plain, plain_is}
 use Rattle.price_check.proofs.stated.is_plain.Goals as goal

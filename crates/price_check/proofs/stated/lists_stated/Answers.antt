@@ -1,7 +1,7 @@
 use Rattle.std.proofs.Common.{◌≡◌, ◌+◌, ◌++◌, ◌∷◌, [], List, arith, append_assoc, append-nil, map, ap, subst, sym, ◌∙◌}
 use Rattle.std.proofs.lemmas.List.{map-append}
 use Rattle.price_check.specs.declared.stated.OwnList.{OwnList}
-use Rattle.price_text.specs.PriceLines.{line_of}
+use Rattle.price_check.specs.PriceLines.{line_of}
 use Rattle.price_check.specs.PriceLists.{PriceList}
 use Rattle.price_check.specs.Owned.{list_owned}
 use Rattle.price_check.specs.Stated.{AreEachStated, lists_of}

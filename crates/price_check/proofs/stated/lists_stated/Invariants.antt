@@ -1,5 +1,5 @@
 use Rattle.std.proofs.Common.{◌++◌, map, drop, List}
-use Rattle.price_text.specs.PriceLines.{line_of}
+use Rattle.price_check.specs.PriceLines.{line_of}
 use Rattle.price_check.specs.Owned.{list_owned}
 use Rattle.price_check.specs.PriceLists.{PriceList}
 use Rattle.price_check.specs.Stated.{AreEachStated, lists_of}

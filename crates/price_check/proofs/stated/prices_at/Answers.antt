@@ -2,7 +2,7 @@ use Rattle.std.proofs.Common.{◌≡◌, ℕ, map, List, ap, sym, ◌∙◌, ari
 use Rattle.std.specs.List.{range_with_len}
 use Rattle.std.proofs.lemmas.List.{ext_get_or}
 use Rattle.std.proofs.lemmas.List.FromFn.{get_or-map-range_with_len, length-map-range_with_len}
-use Rattle.price_text.specs.PriceLines.{line_of}
+use Rattle.price_check.specs.PriceLines.{line_of}
 use Rattle.price_check.specs.Stated.{price_at}
 use Rattle.priced_floors.specs.declared.charges.TheConstants.{SCALE}
 use Rattle.priced_floors.specs.declared.prices.TheConstants.{PITCHES}

@@ -1,5 +1,5 @@
 use Rattle.std.proofs.Common.{◌≡◌, ◌<◌, ℕ, length, map, get_or}
-use Rattle.price_text.specs.PriceLines.{line_of}
+use Rattle.price_check.specs.PriceLines.{line_of}
 use Rattle.price_check.specs.Stated.{price_at}
 use Rattle.priced_floors.specs.declared.prices.TheConstants.{PITCHES}
 use Rattle.price_check.proofs.stated.prices_at.Given as goal

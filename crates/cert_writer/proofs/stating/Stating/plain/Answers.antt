@@ -1,5 +1,5 @@
 use Rattle.std.proofs.Common.{ap, ◌∙◌}
-use Rattle.price_text.specs.PriceLines.{Keeps, after}
+use Rattle.price_check.specs.PriceLines.{Keeps, after}
 use Rattle.cert_writer.proofs.Begun.{one_line, plain_states}
 use Rattle.cert_writer.proofs.stating.Stating.plain.Goals as goal
 

@@ -1,7 +1,7 @@
 use Rattle.std.proofs.Common.{ap, map, [], ◌∷◌, ◌∙◌}
 use Rattle.std.proofs.lemmas.Bool.{OnTrue_at}
 use Rattle.std.proofs.lemmas.List.{map-append}
-use Rattle.price_text.specs.PriceLines.{line_of}
+use Rattle.price_check.specs.PriceLines.{line_of}
 use Rattle.cert_writer.proofs.Begun.{put_states, within_more}
 use Rattle.cert_writer.proofs.stating.Stating.put.Goals as goal
 

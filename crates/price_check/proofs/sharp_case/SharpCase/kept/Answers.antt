@@ -3,7 +3,7 @@ use Rattle.cert_law.specs.Cases.{IsCase, matter_of}
 use Rattle.price_check.specs.Sharps.{Sharp, lists_in}
 use Rattle.price_check.proofs.SharpLemmas.{same_lists}
 use Rattle.price_check.specs.Stated.{AreStated}
-use Rattle.price_text.specs.PriceLines.{line_of}
+use Rattle.price_check.specs.PriceLines.{line_of}
 use Rattle.std.specs.Prelude.{map}
 use Rattle.price_check.proofs.sharp_case.SharpCase.kept.Goals as goal
 

@@ -10,7 +10,7 @@ use Rattle.price_check.proofs.SharpLemmas.{plain_small, same_lists, stated_truth
 use Rattle.price_check.proofs.TailTruths.{tails_tell_truth}
 use Rattle.price_check.proofs.SameFloors.{stated_floors_are_one}
 use Rattle.price_check.specs.PriceLists.{PriceList, sharp_tail}
-use Rattle.price_text.specs.PriceLines.{line_of}
+use Rattle.price_check.specs.PriceLines.{line_of}
 use Rattle.price_check.proofs.sharp_case.SharpCaseClaimTree.is_true.Goals as goal
 
 pub is_true-requires-clause-small : goal.is_true-requires-clause-small

@@ -7,7 +7,7 @@ use Rattle.price_check.specs.Floors.{list_of}
 use Rattle.price_check.specs.Sharps.{IsSharpKnown, Sharp, plain_of, tree_in}
 use Rattle.price_check.proofs.SharpLemmas.{broken_truth, plain_step, sharp_kept}
 use Rattle.price_check.proofs.SameFloors.{stated_floors_are_one}
-use Rattle.price_text.specs.PriceLines.{line_of}
+use Rattle.price_check.specs.PriceLines.{line_of}
 use Rattle.price_check.proofs.sharp_case.SharpCaseClaimTree.judge_behind.Goals as goal
 
 pub judge_behind-requires-clause-step : goal.judge_behind-requires-clause-step

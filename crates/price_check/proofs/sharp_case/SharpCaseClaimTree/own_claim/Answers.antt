@@ -10,7 +10,7 @@ use Rattle.price_check.proofs.SharpLemmas.{plain_small, same_lists}
 use Rattle.price_check.specs.Truths.{sharp_first_claim}
 use Rattle.price_check.proofs.TailTruths.{tails_tell_first}
 use Rattle.price_check.specs.PriceLists.{PriceList, sharp_tail}
-use Rattle.price_text.specs.PriceLines.{line_of}
+use Rattle.price_check.specs.PriceLines.{line_of}
 use Rattle.price_check.proofs.sharp_case.SharpCaseClaimTree.own_claim.Goals as goal
 
 pub first_claim-requires : goal.first_claim-requires

@@ -1,8 +1,0 @@
-use Rattle.price_text.proofs.WholeLists as whole
-use Rattle.price_text.proofs.law.lists_are_read.Goals as goal
-
-pub returns-clause-written : goal.returns-clause-written
-returns-clause-written c = whole.lists_are_read
-
-pub returns-clause-read : goal.returns-clause-read
-returns-clause-read c = whole.read_lists_fit

@@ -1,4 +1,0 @@
-use Rattle.price_text.proofs.reading.+keys_in.Given as goal
-
-abbrev pub decreases-keys_in : goal.decreases-keys_in
-decreases-keys_in l = l.most

@@ -1,4 +1,0 @@
-pub mod PriceLines
-pub mod Reading
-pub mod Laws
-pub mod Lists
