@@ -21,8 +21,8 @@ use cert_tree::{Judging, begin, feed, finish};
 use floor_tables::Tables;
 use fux_grid::{Exercise, Place};
 use fux_pitch::Memory;
-use menu_tails::MenuTails;
 use penalty_sheet::Sheet;
+use price_check::MenuTails;
 use std::alloc::{AllocError, Global};
 use std::marker::Model;
 

@@ -23,11 +23,10 @@ use cert_law::{Case, weights_are_small};
 use cert_text::{CertFault, CertHead, Form, Refused, Why};
 use fux_grid::Exercise;
 use fux_port::{Failed, Shelf};
-use menu_tails::MenuTails;
 use penalty_sheet::Sheet;
 use price_check::{
-    ListsFault, PriceLine, SharpCase, first_high, list_floors, list_numbers, lists_in, lists_stated,
-    priced_lists, webs_of,
+    ListsFault, MenuTails, PriceLine, SharpCase, first_high, list_floors, list_numbers, lists_in,
+    lists_stated, priced_lists, webs_of,
 };
 use species_space::SpeciesSpace;
 use std::alloc::Global;

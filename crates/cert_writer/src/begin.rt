@@ -12,7 +12,7 @@ use cert_law::{Case, TailedCase};
 use cert_text::Form;
 use cert_tree::{begin_again, room_for_walk};
 use fux_pitch::Memory;
-use menu_tails::MenuTails;
+use price_check::MenuTails;
 use std::alloc::Global;
 
 /// The room of the lines of a certificate, of which none is still to come.

@@ -27,8 +27,8 @@ use cert_law::{Case, weights_are_small};
 use cert_text::{CertHead, CertWrite, Form};
 use fux_grid::{Exercise, Score};
 use fux_port::{Failed, Sink};
-use menu_tails::MenuTails;
 use penalty_sheet::Sheet;
+use price_check::MenuTails;
 use species_space::SpeciesSpace;
 use std::alloc::Global;
 

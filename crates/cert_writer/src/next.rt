@@ -16,7 +16,7 @@ use cert_law::{Case, PrefixKnown, TailedCase};
 use cert_text::{Claim, write_claim, write_potential};
 use cert_tree::Walk;
 use floor_tables::Tables;
-use menu_tails::MenuTails;
+use price_check::MenuTails;
 
 /// The claim that comes next.
 fn next_claim(

@@ -21,10 +21,9 @@ use cert_text::{CertHead, Form};
 use fux_grid::Score;
 use fux_pitch::Memory;
 use fux_port::Sink;
-use menu_tails::MenuTails;
 use price_check::{
-    PriceLine, SharpCase, list_floors, list_numbers, lists_are_fit, lists_stated, priced_lists,
-    webs_of,
+    MenuTails, PriceLine, SharpCase, list_floors, list_numbers, lists_are_fit, lists_stated,
+    priced_lists, webs_of,
 };
 use price_rounds::tuned_prices;
 use species_space::SpeciesSpace;

@@ -12,3 +12,4 @@ pub mod PriceLines
 pub mod Reading
 pub mod LineLaws
 pub mod Lists
+pub mod Blocks

@@ -13,10 +13,10 @@ ghost use Rattle.price_check.specs.PriceLines.{line_of};
 
 use crate::floors::{ListFloor, MOST_LISTS, first_places, next_places, tail_by};
 use crate::line::PriceLine;
+use crate::tails::MenuTails;
 use cert_law::{Case, PrefixKnown, TailedCase, first_claim, is_open, is_true};
 use cert_text::{CertHead, Claim};
 use cert_tree::ClaimTree;
-use menu_tails::MenuTails;
 use priced_paths::Place;
 use std::marker::Model;
 

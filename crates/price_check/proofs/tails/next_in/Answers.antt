@@ -1,7 +1,7 @@
 use Rattle.std.proofs.Common.{◌<◌, length, arith}
 use Rattle.cert_law.proofs.NumberLemmas.{found_next, found_none, none_beyond}
 use Rattle.species_space.specs.Blocks.{columns_seen}
-use Rattle.menu_tails.proofs.tails.next_in.Goals as goal
+use Rattle.price_check.proofs.tails.next_in.Goals as goal
 
 pub returns-then-from-len : goal.returns-then-from-len
 returns-then-from-len c =

@@ -1,8 +1,8 @@
 use Rattle.std.proofs.Common.{ap, sym, ◌∙◌, subst}
 use Rattle.floor_tables.specs.Tables.{Task}
 use Rattle.fux_grid.specs.declared.exercise.Exercise.{Exercise}
-use Rattle.menu_tails.specs.Blocks.{AreAllBlocks}
-use Rattle.menu_tails.proofs.tails.MenuTails.new.Goals as goal
+use Rattle.price_check.specs.Blocks.{AreAllBlocks}
+use Rattle.price_check.proofs.tails.MenuTails.new.Goals as goal
 
 pub invariant_of-result : goal.invariant_of-result
 invariant_of-result c =

@@ -2,7 +2,7 @@ use Rattle.std.proofs.Common.{sym, subst}
 use Rattle.fux_grid.specs.Menus.{IsAscending}
 use Rattle.fux_grid.proofs.MenuLemmas.{menu_of-ascends, menu_of-full}
 use Rattle.species_space.specs.Blocks.{AreBlocksOf, HasOneWidth}
-use Rattle.menu_tails.proofs.tails.blocks_at.Goals as goal
+use Rattle.price_check.proofs.tails.blocks_at.Goals as goal
 
 pub new-requires-clause-order : goal.new-requires-clause-order
 new-requires-clause-order c =

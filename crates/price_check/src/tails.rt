@@ -5,7 +5,7 @@ ghost use Rattle.cert_law.specs.Known.{IsNextNumber};
 ghost use Rattle.floor_tables.specs.Tables.{AreNarrow};
 ghost use Rattle.fux_grid.specs.Exercises.{IsValid, columns_in};
 ghost use Rattle.fux_grid.specs.Menus.{menu_of};
-ghost use Rattle.menu_tails.specs.Blocks.{AreAllBlocks};
+ghost use Rattle.price_check.specs.Blocks.{AreAllBlocks};
 ghost use Rattle.species_space.specs.Blocks.{AreBlocksOf, IsCut, columns_seen};
 
 use cert_law::{AloneTables, Tails};
@@ -26,7 +26,7 @@ pub struct MenuTails<'a> {
 
 impl<'a> Model for MenuTails<'a> {
     ghost use Rattle.floor_tables.specs.Tables.{Task};
-    ghost use Rattle.menu_tails.specs.Blocks.{AreAllBlocks};
+    ghost use Rattle.price_check.specs.Blocks.{AreAllBlocks};
 
     ghost Value = { Task };
 

@@ -1,7 +1,7 @@
 use Rattle.std.proofs.Common.{◌≡◌, ◌≤◌, length}
 use Rattle.std.specs.Prelude.{vec_capacity}
-use Rattle.menu_tails.specs.Blocks.{AreFirstBlocks}
-use Rattle.menu_tails.proofs.tails.blocks_of.Given as goal
+use Rattle.price_check.specs.Blocks.{AreFirstBlocks}
+use Rattle.price_check.proofs.tails.blocks_of.Given as goal
 
 -- those of the places so far, and room for the rest
 abbrev pub invariant-loop-i : goal.invariant-loop-i

@@ -1,7 +1,7 @@
 use Rattle.std.proofs.Common.{List, subst}
 use Rattle.cert_law.specs.Known.{IsNextNumber}
 use Rattle.fux_grid.specs.declared.cell.Cell.{Cell}
-use Rattle.menu_tails.proofs.tails.MenuTailsTails.next.Goals as goal
+use Rattle.price_check.proofs.tails.MenuTailsTails.next.Goals as goal
 
 pub returns : goal.returns
 returns c =

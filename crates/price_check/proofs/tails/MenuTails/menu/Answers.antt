@@ -3,7 +3,7 @@ use Rattle.floor_tables.specs.Tables.{Task}
 use Rattle.fux_grid.specs.Exercises.{columns_in}
 use Rattle.fux_grid.specs.Menus.{menu_of}
 use Rattle.species_space.specs.Blocks.{AreBlocksOf}
-use Rattle.menu_tails.proofs.tails.MenuTails.menu.Goals as goal
+use Rattle.price_check.proofs.tails.MenuTails.menu.Goals as goal
 
 pub returns-clause-columns : goal.returns-clause-columns
 returns-clause-columns c =

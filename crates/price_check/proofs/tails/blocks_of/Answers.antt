@@ -5,10 +5,10 @@ use Rattle.floor_tables.specs.Tables.{AreNarrow}
 use Rattle.fux_grid.specs.declared.exercise.Exercise.{Exercise}
 use Rattle.fux_grid.specs.Exercises.{columns_in}
 use Rattle.fux_grid.specs.Menus.{menu_of}
-use Rattle.menu_tails.specs.Blocks.{AreFirstBlocks}
+use Rattle.price_check.specs.Blocks.{AreFirstBlocks}
 use Rattle.species_space.specs.Blocks.{AreBlocksOf}
 use Rattle.species_space.specs.declared.blocks.Blocks.{Blocks}
-use Rattle.menu_tails.proofs.tails.blocks_of.Goals as goal
+use Rattle.price_check.proofs.tails.blocks_of.Goals as goal
 
 pub blocks_at-cut-requires-clause-narrow : goal.blocks_at-cut-requires-clause-narrow
 blocks_at-cut-requires-clause-narrow c = subst AreNarrow (sym c.requires.same) c.requires.narrow
