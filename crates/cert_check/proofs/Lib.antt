@@ -12,3 +12,10 @@ pub mod StartLemmas
 pub mod ToldEntries
 pub mod ToldLists
 pub mod NearLemmas
+mod BoundLemmas
+mod FirstLemmas
+mod HeldLemmas
+mod MenuLemmas
+mod PlaceLemmas
+mod SumLemmas
+mod TruthLemmas

@@ -6,3 +6,9 @@ pub mod Opening
 pub mod Settings
 pub mod Starts
 pub mod Stating
+pub mod Boards
+pub mod Faults
+pub mod First
+pub mod Kept
+pub mod Listings
+pub mod Menus

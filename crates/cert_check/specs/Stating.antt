@@ -3,7 +3,7 @@
 use Rattle.std.specs.Prelude.{◌≡◌, ℕ, ◌+◌, List, ⊤}
 use Rattle.cert_check.specs.declared.stated.CloseFault.{CloseFault}
 use Rattle.cert_check.specs.declared.stated.CloseFault.TheVariants as closing
-use Rattle.cert_entries.specs.Listings.{Listing}
+use Rattle.cert_check.specs.Listings.{Listing}
 use Rattle.cert_law.specs.Cases.{IsCase, Matter}
 use Rattle.cert_law.specs.Entries.{IsFirstFalse}
 use Rattle.cert_text.specs.declared.answers.CertHead.{CertHead}

@@ -12,8 +12,8 @@ ghost use Rattle.floor_tables.specs.Tables.{AreNarrow};
 ghost use Rattle.fux_grid.specs.Exercises.{IsValid};
 
 use crate::checker::{Checker, OpenFault};
+use crate::entries::{Entries, EntryFault};
 use crate::head::is_sound;
-use cert_entries::{Entries, EntryFault};
 use cert_text::{CertHead, Potential, Refused, Why};
 use fux_grid::Exercise;
 use fux_pitch::Memory;

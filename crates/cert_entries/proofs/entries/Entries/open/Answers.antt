@@ -1,4 +1,0 @@
-use Rattle.cert_entries.proofs.entries.Entries.open.Goals as goal
-
-pub returns-clause-narrow : goal.returns-clause-narrow
-returns-clause-narrow c = c.in_ok-menus.ensures.made.narrow

@@ -1,5 +1,0 @@
-use Rattle.cert_entries.specs.Menus.{HaveMenus}
-use Rattle.cert_entries.proofs.menus.Menus.of.Given as goal
-
-abbrev pub invariant-loop-i : goal.invariant-loop-i
-invariant-loop-i l = HaveMenus l.ex l.i l.menus

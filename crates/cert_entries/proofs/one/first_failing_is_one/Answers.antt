@@ -1,5 +1,0 @@
-use Rattle.cert_entries.proofs.FirstLemmas.{first_is_one}
-use Rattle.cert_entries.proofs.one.first_failing_is_one.Goals as goal
-
-pub returns : goal.returns
-returns g c = first_is_one (g.T.Tests.passes c.args._tests.now) (g.T.Tests.size c.args._tests.now)
