@@ -1,6 +1,6 @@
 -- How a file is judged where nothing more is read (`unread`, `unread_fault`), most often since
--- memory is wanting (`unread_memory`); behind a front (`behind_front`); and counted from before, with
--- what was read since (`judged_since`).
+-- memory is wanting (`unread_memory`), where no more was read than a reader may (`few_read`); behind
+-- a front (`behind_front`); and counted from before, with what was read since (`judged_since`).
 use Rattle.std.proofs.Common.{◌≡◌, ◌≢◌, ℕ, ◌+◌, ◌≤◌, inl, inr, List, Result, Err, refl, sym, ap, subst, ◌∙◌, arith}
 use Rattle.std.specs.Prelude.{IfErr}
 use Rattle.std.specs.Result.{IsErrAnd}
@@ -13,10 +13,14 @@ use Rattle.cert_check.specs.declared.checking.CheckFault.TheVariants.{Memory, Un
 use Rattle.cert_check.proofs.AnswerLemmas.{answers_moved}
 use Rattle.cert_file.proofs.NearLemmas.{each_verdict, read_moved}
 use Rattle.cert_file.specs.Nearness.{IsReadNear, ReadsNear}
-use Rattle.cert_file.specs.Readings.{longest_piece}
+use Rattle.cert_file.specs.Readings.{Reading, longest_piece}
 use Rattle.cert_file.specs.declared.verdict.Verdict.{Verdict}
 use Rattle.fux_port.specs.Counts.{Rose}
 use Rattle.fux_port.proofs.Rises.{rose_later}
+
+-- what a reader keeps of its offset holds of the reading that contracts see
+pub few_read : (kept reader : Reading) → kept ≡ reader → kept.offset ≤ 1073741824 → reader.offset ≤ 1073741825
+few_read kept reader same limit = omega (arith, limit, ap (λ (r : Reading). r.offset) same)
 
 module _ (asked : Asked) (name : List ℕ) (promised : Type 0) where
   -- nothing more is read than a piece, and no read is blamed

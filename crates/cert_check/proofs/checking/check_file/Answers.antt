@@ -57,7 +57,7 @@ returns-in-Err-clause-wide g c = λ wide.
 -- ---- behind a head
 
 pub check_form-requires-clause-started : goal.check_form-requires-clause-started
-check_form-requires-clause-started g c =
+check_form-requires-clause-started g c κs within =
     subst
     (λ (fs : Files).
     IsStarted c.args.ex.now fs c.args.name.now c.in-Ok.started.0 c.in-Ok.started.1 c.in-Ok.started.2)

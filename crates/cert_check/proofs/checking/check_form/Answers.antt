@@ -5,7 +5,7 @@ use Rattle.cert_text.specs.declared.answers.Form.{Form}
 use Rattle.cert_check.proofs.checking.check_form.Goals as goal
 
 pub check_first-requires-clause-started : goal.check_first-requires-clause-started
-check_first-requires-clause-started g c =
+check_first-requires-clause-started g c κs within =
     subst
     (λ (f : Form).
     IsStarted c.args.ex.now (g.F.Shelf.files c.args.shelf.now) c.args.name.now f c.args.head c.args.pieces)
@@ -17,7 +17,7 @@ returns-in-First g c =
     record { judged = it.judged; wide = narrow_headless c.args.ex.now c.check_first.result it.narrow }
 
 pub check_second-requires-clause-started : goal.check_second-requires-clause-started
-check_second-requires-clause-started g c =
+check_second-requires-clause-started g c κs within =
     subst
     (λ (f : Form).
     IsStarted c.args.ex.now (g.F.Shelf.files c.args.shelf.now) c.args.name.now f c.args.head c.args.pieces)
@@ -29,7 +29,7 @@ returns-in-Second g c =
     record { judged = it.judged; wide = narrow_headless c.args.ex.now c.check_second.result it.narrow }
 
 pub check_third-requires-clause-started : goal.check_third-requires-clause-started
-check_third-requires-clause-started g c =
+check_third-requires-clause-started g c κs within =
     subst
     (λ (f : Form).
     IsStarted c.args.ex.now (g.F.Shelf.files c.args.shelf.now) c.args.name.now f c.args.head c.args.pieces)

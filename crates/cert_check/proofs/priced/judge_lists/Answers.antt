@@ -7,7 +7,7 @@ use Rattle.cert_check.specs.Listed.{unwoven}
 use Rattle.cert_check.specs.Settings.{Asked, IsOpeningText, Lists, Opening, setting_subject}
 use Rattle.cert_check.specs.declared.checking.CheckFault.{CheckFault}
 use Rattle.cert_check.proofs.AnswerLemmas.{unwoven_served}
-use Rattle.cert_check.proofs.JudgedLemmas.{unread_fault, unread_memory}
+use Rattle.cert_check.proofs.JudgedLemmas.{few_read, unread_fault, unread_memory}
 use Rattle.cert_check.proofs.PricedLemmas.{are_for, few_stated, floors_stated, has_tails, is_case, unwoven_answer}
 use Rattle.cert_file.specs.Checking.{Checking, opened_at}
 use Rattle.cert_file.specs.Nearness.{ReadsNear}
@@ -59,11 +59,11 @@ webs_of-requires g c = record {
 
 pub returns-in_err-own : goal.returns-in_err-own
 returns-in_err-own g c =
-    unread_memory _ _ _ _ (shelved _ _ _) c.args.reader.offset (omega arith) c.from_residual.result c.from_residual.ensures.1
+    unread_memory _ _ _ _ (shelved _ _ _) c.args.reader.offset (few_read _ _ c.reader.view_is c.reader.invariant.limit) c.from_residual.result c.from_residual.ensures.1
 
 pub returns-in_err-lists : goal.returns-in_err-lists
 returns-in_err-lists g c =
-    unread_memory _ _ _ _ (shelved _ _ _) c.args.reader.offset (omega arith) c.from_residual-in_err-lists.result c.from_residual-in_err-lists.ensures.1
+    unread_memory _ _ _ _ (shelved _ _ _) c.args.reader.offset (few_read _ _ c.reader.view_is c.reader.invariant.limit) c.from_residual-in_err-lists.result c.from_residual-in_err-lists.ensures.1
 
 pub returns-in_err-webs : goal.returns-in_err-webs
 returns-in_err-webs g c =
@@ -91,27 +91,27 @@ returns-in_err-webs g c =
     (λ (r : Result Verdict CheckFault).
     AreClaimsJudged asked opening name promised told (shelved told.files told.faults (told.given + offset)) r)
     (sym (wants.1 ∙ ap Err wants.2))
-    (unread_fault asked name promised (ReadsNear (setting_subject asked) opening files name) told offset (omega arith)
-    (unwoven fault)
+    (unread_fault asked name promised (ReadsNear (setting_subject asked) opening files name) told offset
+    (few_read _ _ c.reader.view_is c.reader.invariant.limit) (unwoven fault)
     (unwoven_answer ex sheet files name rose c.args.head.now lines c.args.reader c.requires.opened fault c.requires.front
     large)
     (unwoven_served fault))
 
 pub returns-in_err-numbers : goal.returns-in_err-numbers
 returns-in_err-numbers g c =
-    unread_memory _ _ _ _ (shelved _ _ _) c.args.reader.offset (omega arith) c.from_residual-in_err-numbers.result c.from_residual-in_err-numbers.ensures.1
+    unread_memory _ _ _ _ (shelved _ _ _) c.args.reader.offset (few_read _ _ c.reader.view_is c.reader.invariant.limit) c.from_residual-in_err-numbers.result c.from_residual-in_err-numbers.ensures.1
 
 pub returns-in_err-floors : goal.returns-in_err-floors
 returns-in_err-floors g c =
-    unread_memory _ _ _ _ (shelved _ _ _) c.args.reader.offset (omega arith) c.from_residual-in_err-floors.result c.from_residual-in_err-floors.ensures.1
+    unread_memory _ _ _ _ (shelved _ _ _) c.args.reader.offset (few_read _ _ c.reader.view_is c.reader.invariant.limit) c.from_residual-in_err-floors.result c.from_residual-in_err-floors.ensures.1
 
 pub returns-in_err-tables : goal.returns-in_err-tables
 returns-in_err-tables g c =
-    unread_memory _ _ _ _ (shelved _ _ _) c.args.reader.offset (omega arith) c.from_residual-in_err-tables.result c.from_residual-in_err-tables.ensures.1
+    unread_memory _ _ _ _ (shelved _ _ _) c.args.reader.offset (few_read _ _ c.reader.view_is c.reader.invariant.limit) c.from_residual-in_err-tables.result c.from_residual-in_err-tables.ensures.1
 
 pub returns-in_err-checker : goal.returns-in_err-checker
 returns-in_err-checker g c =
-    unread_memory _ _ _ _ (shelved _ _ _) c.args.reader.offset (omega arith) c.from_residual-in_err-checker.result c.from_residual-in_err-checker.ensures.1
+    unread_memory _ _ _ _ (shelved _ _ _) c.args.reader.offset (few_read _ _ c.reader.view_is c.reader.invariant.limit) c.from_residual-in_err-checker.result c.from_residual-in_err-checker.ensures.1
 
 pub list_numbers-requires : goal.list_numbers-requires
 list_numbers-requires g c = (
