@@ -8,7 +8,9 @@ looks at the processes below it twice a second. A process that works on a crate 
 words (`--crate-name`), its program or its folder; it is counted with the processes that it
 starts itself. One that works in a copy with an edit tries a wrong body, or is the proof that the
 edits of a crate begin with. What the whole took is told by the system once all have ended, so
-what no sample saw is a row of its own.
+what no sample saw is a row of its own. Each half minute it does the same piece of work itself, so
+that who compares two runs sees how fast the machine was in each. Where RT_JOBS says how many
+proofs `rt ci` makes side by side, each of them has one processor.
 
 --counts FILE keeps the counts, --from FILE takes kept ones in place of a run, and --page writes
 the table into docs/gate.md, between its two lines that begin with `<!-- run`. The status is that
@@ -19,6 +21,7 @@ import json
 import os
 import re
 import resource
+import statistics
 import subprocess
 import sys
 import threading
@@ -28,6 +31,7 @@ TOP = os.path.dirname(os.path.dirname(os.path.abspath(__file__)))
 PAGE = os.path.join(TOP, "docs", "gate.md")
 TICKS = os.sysconf("SC_CLK_TCK")
 EVERY = 0.5
+PACE_EVERY = 30
 
 
 def crates():
@@ -74,6 +78,15 @@ def work_of(pid):
         return words[words.index("--crate-name") + 1], is_edit
     at = re.search(r"/crates/([a-z0-9_]+)(/|$)", " ".join([*words, folder]))
     return (at[1], is_edit) if at else None
+
+
+def pace():
+    """The processor seconds that a fixed piece of work takes now."""
+    began, found = time.thread_time(), {}
+    for number in range(1_000_000):
+        found[number * 7919 % 1_000_003] = number
+    sum(found.values())
+    return time.thread_time() - began
 
 
 class Sampler:
@@ -126,9 +139,12 @@ def run(words):
 
     reader = threading.Thread(target=pass_on)
     reader.start()
-    sampler = Sampler(gate.pid)
+    sampler, paces, due = Sampler(gate.pid), [], 0
     while gate.poll() is None:
         sampler.look()
+        if time.time() >= due:
+            paces.append(pace())
+            due = time.time() + PACE_EVERY
         time.sleep(EVERY)
     reader.join()
     used = resource.getrusage(resource.RUSAGE_CHILDREN)
@@ -141,10 +157,22 @@ def run(words):
         "minutes": (time.time() - began) / 60,
         "whole": whole,
         "processors": os.cpu_count(),
+        "side_by_side": os.environ.get("RT_JOBS", ""),
+        "paces": paces,
         "kit": kit.strip(),
         "last": [it.strip() for it in lines[-2:]],
         "seconds": sampler.seconds(),
     }
+
+
+def pace_of(paces):
+    """The sentence that says how fast the machine was, if a run noted it."""
+    if not paces:
+        return []
+    return [
+        f"The piece of work that `bench/gate.py` does each half minute took {min(paces):.2f} to "
+        f"{max(paces):.2f} seconds, {statistics.fmean(paces):.2f} in the mean."
+    ]
 
 
 def table(told):
@@ -154,11 +182,13 @@ def table(told):
         proof, edits = told["seconds"].get(name, (0, 0))
         rows.append((name, wrong_bodies(name), proof, edits))
     rows.sort(key=lambda row: (-(row[2] + row[3]), row[0]))
-    words = " ".join(["rt ci", *told["words"]])
+    jobs = told.get("side_by_side")
+    words = " ".join([*([f"RT_JOBS={jobs}"] if jobs else []), "rt ci", *told["words"]])
     text = [
         f"On {told['day']}, `{words}` took {told['whole'] / 60:.1f} processor minutes and "
         f"{told['minutes']:.1f} minutes on {told['processors']} processors, with {told['kit']}.",
         f"Its last line was `{told['last'][-1] if told['last'] else ''}`.",
+        *pace_of(told.get("paces")),
         "The table has processor seconds.",
         "",
         "| Crate | Wrong bodies | Proof and tests | Their checks | All |",
