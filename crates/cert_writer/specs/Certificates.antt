@@ -13,8 +13,8 @@ use Rattle.fux_grid.specs.declared.exercise.Exercise.{Exercise}
 use Rattle.fux_grid.specs.Exercises.{columns_in}
 use Rattle.fux_port.specs.Written.{StopsShort, appended}
 use Rattle.cert_writer.specs.Stating.{FitBehind}
-use Rattle.priced_floors.specs.Choices.{keeps_of}
-use Rattle.priced_floors.specs.declared.keeps.Keeps.{Keeps}
+use Rattle.open_ends.specs.Choices.{keeps_of}
+use Rattle.open_ends.specs.declared.keeps.Keeps.{Keeps}
 use Rattle.penalty_sheet.specs.declared.sheet.Sheet.{Sheet}
 use Rattle.price_check.specs.Sharps.{Sharp, own_in, tree_in}
 use Rattle.price_check.specs.Statements.{HasLargeStated, stated_tree}

@@ -22,9 +22,9 @@ use Rattle.fux_judge.proofs.LeastLaws.{least_grows, paid_and_least_at_end}
 use Rattle.fux_pitch.specs.declared.pitch.Pitch.{Pitch}
 use Rattle.melody_rules.specs.GaugeParts.{place_in}
 use Rattle.rule_law.specs.Terms.{started_pitch}
-use Rattle.priced_floors.specs.declared.keeps.Keeps.{Keeps}
-use Rattle.priced_floors.proofs.Followed.{voices_of_valid}
-use Rattle.priced_floors.proofs.GoesOn.{leads_on}
+use Rattle.open_ends.specs.declared.keeps.Keeps.{Keeps}
+use Rattle.open_ends.proofs.Followed.{voices_of_valid}
+use Rattle.open_ends.proofs.GoesOn.{leads_on}
 use Rattle.penalty_sheet.specs.declared.sheet.Sheet.{Sheet}
 use Rattle.priced_floors.specs.declared.charges.Charges.{Charges}
 use Rattle.priced_floors.specs.Charges.{AreFairCharges, any_summit, column_charge, comes_to, debt_in, keeps_within, note_charge, prices_of, reaches_in, summit_at, summit_of, toll_in}

@@ -10,7 +10,7 @@ use Rattle.fux_grid.specs.declared.exercise.Exercise.{Exercise}
 use Rattle.fux_grid.specs.Exercises.{columns_in}
 use Rattle.fux_judge.specs.Gauges.{least_of}
 use Rattle.fux_judge.specs.Penalties.{paid}
-use Rattle.priced_floors.specs.declared.keeps.Keeps.{Keeps}
+use Rattle.open_ends.specs.declared.keeps.Keeps.{Keeps}
 use Rattle.priced_paths.specs.LeastRests.{least_sum}
 use Rattle.penalty_sheet.specs.declared.sheet.Sheet.{Sheet}
 use Rattle.price_check.specs.declared.floors.ListFloor.{ListFloor}

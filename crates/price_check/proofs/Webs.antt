@@ -8,8 +8,8 @@ use Rattle.std.proofs.lemmas.List.{get_or_append_left, get_or_default, get_or_pa
 use Rattle.std.proofs.lemmas.Option.{get_or_from_slice_get, slice_get-map}
 use Rattle.floor_tables.specs.Tables.{Task}
 use Rattle.fux_grid.specs.Exercises.{columns_in}
-use Rattle.priced_floors.specs.declared.keeps.Keeps.{Keeps}
-use Rattle.priced_floors.specs.declared.keeps.Pairs.{Pairs}
+use Rattle.open_ends.specs.declared.keeps.Keeps.{Keeps}
+use Rattle.open_ends.specs.declared.keeps.Pairs.{Pairs}
 use Rattle.price_check.specs.declared.priced_list.PricedList.{PricedList}
 use Rattle.price_check.specs.Woven.{AreOf, AreWebs, FitsFor, HasLargeWeb, HasWeb, IsLargeList, IsLargeWeb, IsWebFor, IsWebOf, keeps_number, list_priced, pairs_number, web_under, with_bit}
 use Rattle.price_check.specs.PriceLists.{PriceList}

@@ -3,7 +3,7 @@ use Rattle.std.specs.Prelude.{◌≡◌, ℕ, ◌+◌, ◌*◌, ◌/◌, ◌%◌
 use Rattle.std.specs.List.{range_with_len}
 use Rattle.fux_pitch.specs.declared.pitch.Pitch.{Pitch}
 use Rattle.melody_rules.specs.GaugeParts.{place_in}
-use Rattle.priced_floors.specs.Choices.{keeps_of}
+use Rattle.open_ends.specs.Choices.{keeps_of}
 use Rattle.penalty_sheet.specs.declared.sheet.Sheet.{Sheet}
 use Rattle.penalty_sheet.specs.Weights.{weight_of}
 use Rattle.price_check.specs.PriceLists.{PriceList}

@@ -7,8 +7,8 @@ use Rattle.cert_law.specs.Certificates.{is_open}
 use Rattle.cert_law.specs.Claims.{longer_prefixes}
 use Rattle.fux_grid.specs.declared.cell.Cell.{Cell}
 use Rattle.fux_grid.specs.declared.exercise.Exercise.{Exercise}
-use Rattle.priced_floors.specs.Choices.{keeps_of}
-use Rattle.priced_floors.specs.declared.keeps.Keeps.{Keeps}
+use Rattle.open_ends.specs.Choices.{keeps_of}
+use Rattle.open_ends.specs.declared.keeps.Keeps.{Keeps}
 use Rattle.penalty_sheet.specs.declared.sheet.Sheet.{Sheet}
 use Rattle.price_check.specs.Woven.{IsLargeWeb}
 use Rattle.price_check.specs.Certificates.{IsSharpTrueOf}

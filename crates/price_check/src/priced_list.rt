@@ -2,7 +2,8 @@
 
 ghost use Rattle.std.specs.Prelude.{◌≡◌};
 
-use priced_floors::{Keeps, PricedSpace};
+use open_ends::Keeps;
+use priced_floors::PricedSpace;
 
 /// A list, with the settings that it prices.
 #[derive(Drop)]

@@ -12,8 +12,9 @@ ghost use Rattle.priced_floors.specs.declared.charges.TheConstants.{SCALE};
 use crate::line::PriceLine;
 use fux_pitch::Memory;
 use melody_rules::place_of;
+use open_ends::Keeps;
 use penalty_sheet::{Sheet, weight};
-use priced_floors::{Charges, Keeps, PITCHES, Prices, SCALE, Summit};
+use priced_floors::{Charges, PITCHES, Prices, SCALE, Summit};
 use std::alloc::Global;
 
 /// A list of prices: what is kept, what is charged, and whether it charges nothing.

@@ -4,7 +4,7 @@ use Rattle.std.specs.Prelude.{◌≤◌, ℕ, []}
 use Rattle.fux_grid.specs.declared.exercise.Exercise.{Exercise}
 use Rattle.fux_grid.specs.Exercises.{columns_in}
 use Rattle.penalty_sheet.specs.declared.sheet.Sheet.{Sheet}
-use Rattle.priced_floors.specs.declared.keeps.Keeps.{Keeps}
+use Rattle.open_ends.specs.declared.keeps.Keeps.{Keeps}
 use Rattle.priced_paths.specs.declared.web.Web.{Web}
 use Rattle.priced_paths.specs.Webs.{IsWeb}
 use Rattle.priced_floors.specs.declared.kept.Kept.{Kept}

@@ -1,7 +1,7 @@
 //! Which choices of what is kept are tried, and in which order. No clause speaks of it.
 
 use fux_grid::{Exercise, species_of};
-use priced_floors::{Keeps, Pairs};
+use open_ends::{Keeps, Pairs};
 
 /// What a certificate may state, what keeps most first.
 pub fn stated_choices() -> [Keeps; 3] {

@@ -10,8 +10,8 @@ use Rattle.fux_grid.specs.Menus.{menu_of}
 use Rattle.penalty_sheet.specs.declared.sheet.Sheet.{Sheet}
 use Rattle.chain_sums.specs.Chains.{cells_of}
 use Rattle.fux_judge.specs.Links.{given, link_of}
-use Rattle.priced_floors.specs.declared.keeps.Keeps.{Keeps}
-use Rattle.priced_floors.specs.Ends.{ends_after}
+use Rattle.open_ends.specs.declared.keeps.Keeps.{Keeps}
+use Rattle.open_ends.specs.Ends.{ends_after}
 use Rattle.species_space.specs.Leaves.{follows_from_test, test_from_follows}
 use Rattle.species_space.specs.Paths.{column_follows}
 use Rattle.priced_floors.specs.declared.kept.Kept.{Kept}

@@ -6,8 +6,8 @@ use Rattle.fux_grid.specs.Menus.{menu_of}
 use Rattle.penalty_sheet.specs.declared.sheet.Sheet.{Sheet}
 use Rattle.fux_judge.specs.Links.{link_of}
 use Rattle.chain_sums.specs.Chains.{cells_of}
-use Rattle.priced_floors.specs.declared.keeps.Keeps.{Keeps}
-use Rattle.priced_floors.specs.Ends.{OpenEnds, ends_after, ends_in}
+use Rattle.open_ends.specs.declared.keeps.Keeps.{Keeps}
+use Rattle.open_ends.specs.Ends.{OpenEnds, ends_after, ends_in}
 use Rattle.species_space.specs.Paths.{column_follows, prefix_at}
 use Rattle.priced_floors.specs.declared.kept.Kept.{Kept}
 

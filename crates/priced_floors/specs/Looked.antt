@@ -11,21 +11,21 @@ use Rattle.std.proofs.lemmas.Bool.Decides.{Decides-and, Decides-eqb, Decides-lik
 use Rattle.std.proofs.lemmas.Slice.Eq.{slice_eq-Decides}
 use Rattle.fux_pitch.specs.declared.pitch.Pitch.{Pitch}
 use Rattle.fux_pitch.specs.Pitch.{degree_of, same_pitch}
-use Rattle.priced_floors.specs.declared.both.Both.{Both}
-use Rattle.priced_floors.specs.declared.cadences.OpenCadences.{OpenCadences}
-use Rattle.priced_floors.specs.declared.ligatures.OpenLigature.{OpenLigature}
-use Rattle.priced_floors.specs.declared.parallels.OpenParallels.{OpenParallels}
-use Rattle.priced_floors.specs.declared.passing.OpenPassing.{OpenPassing}
-use Rattle.priced_floors.specs.declared.runs.OpenRuns.{OpenRuns}
-use Rattle.priced_floors.specs.declared.runs.Run.{Run}
-use Rattle.priced_floors.specs.declared.shapes.OpenShapes.{OpenShapes}
-use Rattle.priced_floors.specs.declared.suspensions.OpenSuspensions.{OpenSuspensions}
-use Rattle.priced_floors.specs.BarRuns.{no_run}
-use Rattle.priced_floors.specs.Ends.{OpenEnds}
-use Rattle.priced_floors.specs.Parts.{both}
-use Rattle.priced_floors.proofs.SamePitches.{pitches_decide}
-use Rattle.priced_floors.proofs.SameRuns.{open_from, runs_decide}
-use Rattle.priced_floors.proofs.SameTurns.{are_same, tells_same}
+use Rattle.open_ends.specs.declared.both.Both.{Both}
+use Rattle.open_ends.specs.declared.cadences.OpenCadences.{OpenCadences}
+use Rattle.open_ends.specs.declared.ligatures.OpenLigature.{OpenLigature}
+use Rattle.open_ends.specs.declared.parallels.OpenParallels.{OpenParallels}
+use Rattle.open_ends.specs.declared.passing.OpenPassing.{OpenPassing}
+use Rattle.open_ends.specs.declared.runs.OpenRuns.{OpenRuns}
+use Rattle.open_ends.specs.declared.runs.Run.{Run}
+use Rattle.open_ends.specs.declared.shapes.OpenShapes.{OpenShapes}
+use Rattle.open_ends.specs.declared.suspensions.OpenSuspensions.{OpenSuspensions}
+use Rattle.open_ends.specs.BarRuns.{no_run}
+use Rattle.open_ends.specs.Ends.{OpenEnds}
+use Rattle.open_ends.specs.Parts.{both}
+use Rattle.open_ends.proofs.SamePitches.{pitches_decide}
+use Rattle.open_ends.proofs.SameRuns.{open_from, runs_decide}
+use Rattle.open_ends.proofs.SameTurns.{are_same, tells_same}
 use Rattle.priced_floors.specs.declared.kept.Kept.{Kept}
 
 -- ---- equal is the same

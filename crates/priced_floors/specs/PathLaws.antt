@@ -21,8 +21,8 @@ use Rattle.fux_judge.specs.Penalties.{newly_paid, paid}
 use Rattle.fux_judge.proofs.Alive.{unbroken_if_alive}
 use Rattle.fux_judge.proofs.Grows.{paid_grows}
 use Rattle.fux_judge.proofs.LeastLaws.{least_at_end}
-use Rattle.priced_floors.specs.declared.keeps.Keeps.{Keeps}
-use Rattle.priced_floors.specs.Ends.{LeadsOn, ends_after, ends_in}
+use Rattle.open_ends.specs.declared.keeps.Keeps.{Keeps}
+use Rattle.open_ends.specs.Ends.{LeadsOn, ends_after, ends_in}
 use Rattle.species_space.specs.Exact.{menus_are_exact}
 use Rattle.species_space.specs.FloorLaws.{FloorParts, floor_parts}
 use Rattle.species_space.specs.Grows as grows

@@ -15,9 +15,9 @@ use Rattle.penalty_sheet.specs.declared.sheet.Sheet.{Sheet}
 use Rattle.fux_judge.specs.Gauges.{gauges_of}
 use Rattle.fux_judge.specs.Lawful.{IsLawful}
 use Rattle.fux_judge.specs.Penalties.{paid}
-use Rattle.priced_floors.specs.declared.keeps.Keeps.{Keeps}
-use Rattle.priced_floors.specs.Parts.{HasVoices}
-use Rattle.priced_floors.proofs.GoesOn.{leads_on}
+use Rattle.open_ends.specs.declared.keeps.Keeps.{Keeps}
+use Rattle.open_ends.specs.Parts.{HasVoices}
+use Rattle.open_ends.proofs.GoesOn.{leads_on}
 use Rattle.species_space.specs.Grows.{live_value, paths_grow}
 use Rattle.species_space.specs.Paths.{column_at, columns_on, live_at, prefix_at}
 use Rattle.tree_search.specs.Answer.{IsLeaf}

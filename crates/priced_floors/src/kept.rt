@@ -3,9 +3,8 @@
 ghost use Rattle.std.specs.Prelude.{◌≡◌, ◌+◌, ◌*◌, ◌<◌, ◌^◌};
 ghost use Rattle.priced_floors.specs.Looked as words;
 
-use crate::ends::OpenEnds;
-use crate::runs::Run;
 use fux_pitch::Pitch;
+use open_ends::{OpenEnds, Run};
 use std::hash::{Hash, Hasher};
 
 /// The number of a path's last column in its menu, none of the empty path; and what waits behind it

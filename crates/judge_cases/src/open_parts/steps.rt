@@ -6,7 +6,7 @@ use crate::agree::agree;
 use crate::open_parts::told::Told;
 use crate::open_parts::{cadences, dissonances, parallels, runs, shapes, suspensions, turnings};
 use fux_grid::{Exercise, Score, mixed_as, species_of};
-use priced_floors::{
+use open_ends::{
     Both, Keeps, OpenCadences, OpenLigature, OpenParallels, OpenPassing, OpenRuns, OpenShapes,
     OpenSuspensions, OpenTurns,
 };

@@ -2,7 +2,7 @@
 
 use fux_grid::Cell;
 use fux_pitch::Pitch;
-use priced_floors::{
+use open_ends::{
     Both, OpenCadences, OpenLigature, OpenParallels, OpenPart, OpenPassing, OpenRuns, OpenShapes,
     OpenSuspensions, OpenTurns, Way, runs_ended,
 };

@@ -1,5 +1,5 @@
 use Rattle.std.proofs.Common.{ap₂}
-use Rattle.priced_floors.specs.declared.keeps.Keeps.{Keeps}
+use Rattle.open_ends.specs.declared.keeps.Keeps.{Keeps}
 use Rattle.price_check.specs.PriceLists.{PriceList}
 use Rattle.priced_floors.specs.declared.charges.Charges.{Charges}
 use Rattle.price_check.proofs.woven.priced_list.Goals as goal

@@ -1,7 +1,7 @@
 use Rattle.std.proofs.Common.{ap, sym, ◌∙◌}
 use Rattle.std.specs.Prelude.{None}
-use Rattle.priced_floors.proofs.GoesOn.{ends-none}
-use Rattle.priced_floors.specs.Ends.{OpenEnds}
+use Rattle.open_ends.proofs.GoesOn.{ends-none}
+use Rattle.open_ends.specs.Ends.{OpenEnds}
 use Rattle.priced_floors.specs.declared.kept.Kept.{Kept}
 use Rattle.priced_floors.proofs.pricing.PricedSpacePricing.start.Goals as goal
 
