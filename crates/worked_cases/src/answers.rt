@@ -1,7 +1,7 @@
 //! The tables, and which function answers the cases of each.
 
-use crate::tables::agree;
-use crate::{menus, mixed, notes, pitches};
+use crate::agree::agree;
+use crate::{given, menus, notes, pitches};
 use std::alloc::Global;
 use std::process::Abort;
 use std::test::Fail;
@@ -76,7 +76,7 @@ fn answer(alloc: Global, asked: Asked, case: &str) -> Result<String, Fail> {
         Asked::Range => menus::range_in(alloc, case),
         Asked::GivenMenu => menus::given_menu(alloc, case),
         Asked::GivenBar => menus::given_line(alloc, case),
-        Asked::Mixed => mixed::mixed_of(alloc, case),
+        Asked::Mixed => given::mixed_of(alloc, case),
     }
 }
 

@@ -2,7 +2,7 @@
 
 ghost use Rattle.fux_grid.specs.Exercises.{IsValid};
 
-use crate::tables::number;
+use crate::words::number;
 use fux_grid::{Cell, Column, Exercise, MenuFault, can_start, is_free, menu, range, width};
 use short_scores::{any_exercise_of, exercise_of};
 use std::alloc::Global;

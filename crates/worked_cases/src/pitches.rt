@@ -2,7 +2,7 @@
 
 ghost use Rattle.std.specs.Prelude.{pos, negsuc, ◌≤ℤ◌, ◌<◌};
 
-use crate::tables::{number, word};
+use crate::words::{number, word};
 use fux_pitch::{
     Interval, Mode, Pitch, final_letter, in_gamut, interval_of, is_consonant, is_imperfect,
     is_perfect, leading, name, parse_pitch, reduce, semitone, spell,

@@ -2,7 +2,7 @@
 
 ghost use Rattle.fux_grid.specs.Exercises.{IsValid};
 
-use crate::tables::number;
+use crate::words::number;
 use fux_grid::{Exercise, is_mixed, mixed_as, species_of, width};
 use short_scores::exercise_of;
 use std::alloc::Global;

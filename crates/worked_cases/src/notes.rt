@@ -2,7 +2,7 @@
 
 ghost use Rattle.std.specs.Prelude.{◌≡◌, IfOk, length};
 
-use crate::tables::{number, word};
+use crate::words::{number, word};
 use fux_grid::{
     Cell, Column, GridFault, Note, Score, next_note, note_at, order, prev_note, shape, sounding,
 };

@@ -1,5 +1,7 @@
 //! What ends a test. An assertion costs more to prove than most of what it stands behind, and one
-//! with a message much more, so that these two stand once.
+//! with a message much more, so that these two stand once. What costs most in the proof of a test is
+//! a long function in which something large is alive, as an exercise is, and each assertion and each
+//! closure: so one function makes it, another works on a reference to it, and none is handed on.
 
 use std::process::Abort;
 
