@@ -6,3 +6,6 @@ pub mod LooseLineLemmas
 pub mod WholeReportLemmas
 pub mod EntryLemmas
 pub mod PageLemmas
+pub mod AloneLemmas
+pub mod NoteSteps
+pub mod Pushed

@@ -10,7 +10,7 @@ use Rattle.class_marker.specs.declared.difference.Difference.{Difference}
 use Rattle.class_marker.specs.Answers.{is_markable}
 use Rattle.class_marker.specs.DifferenceLines.{difference_lines}
 use Rattle.class_marker.specs.Differences.{differences}
-use Rattle.mark_evidence.specs.Explained.{explained_marks}
+use Rattle.class_marker.specs.Explained.{explained_marks}
 use Rattle.score_marker.specs.declared.mark.Mark.{Mark}
 use Rattle.score_marker.specs.Marks.{AreMarks}
 use Rattle.score_picture.specs.Pictures.{inlined_of}

@@ -12,3 +12,13 @@ pub mod Sayings
 pub mod Entries
 pub mod Escapes
 pub mod Pages
+pub mod Alone
+pub mod Asked
+pub mod Evidence
+pub mod Explained
+pub mod Explanations
+pub mod Intervals
+pub mod Notes
+pub mod Sentences
+pub mod Sounding
+pub mod Words

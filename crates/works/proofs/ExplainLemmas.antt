@@ -7,7 +7,7 @@ use Rattle.class_marker.specs.Markings.{IsTheText}
 use Rattle.command_words.specs.declared.command.Subject.{Subject}
 use Rattle.fux_grid.specs.declared.exercise.Exercise.{Exercise}
 use Rattle.fux_text.specs.Texts.{HasFault}
-use Rattle.mark_evidence.specs.Explanations.{ExplainsBy}
+use Rattle.class_marker.specs.Explanations.{ExplainsBy}
 use Rattle.text_faults.specs.declared.found.FoundFault.{FoundFault}
 use Rattle.text_faults.specs.Below.{AreBelow, AreFrom, lines_judged}
 use Rattle.text_faults.specs.Explained.{TellsFaults}

@@ -3,8 +3,8 @@ use Rattle.std.specs.Prelude.{◌≡◌, ℕ, ◌⊎◌, List, [], Ok, Err, leng
 use Rattle.fux_grid.specs.declared.exercise.Exercise.{Exercise}
 use Rattle.command_words.specs.declared.command.Subject.{Subject}
 use Rattle.command_words.specs.declared.command.Subject.TheVariants as subject
-use Rattle.mark_evidence.specs.declared.explanation.Explanation.{Explanation}
-use Rattle.mark_evidence.specs.Explanations.{ExplainsBy, ExplainsCantus, ExplainsExercise}
+use Rattle.class_marker.specs.declared.explanation.Explanation.{Explanation}
+use Rattle.class_marker.specs.Explanations.{ExplainsBy, ExplainsCantus, ExplainsExercise}
 use Rattle.text_faults.specs.declared.found.FoundFault.{FoundFault}
 use Rattle.text_faults.specs.Below.{AreFaults}
 use Rattle.text_faults.specs.Explained.{explained_faults}

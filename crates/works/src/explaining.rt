@@ -5,7 +5,7 @@ ghost use Rattle.class_marker.specs.Markings.{IsContent};
 ghost use Rattle.command_words.specs.Commands.{IsNamedSubject};
 ghost use Rattle.fux_grid.specs.Exercises.{IsValid};
 ghost use Rattle.fux_grid.specs.Namings.{AreNamed};
-ghost use Rattle.mark_evidence.specs.Explanations.{ExplainsBy, ExplainsCantus, ExplainsExercise};
+ghost use Rattle.class_marker.specs.Explanations.{ExplainsBy, ExplainsCantus, ExplainsExercise};
 ghost use Rattle.text_faults.specs.Explained.{TellsFaults};
 ghost use Rattle.works.specs.declared.work.Verdict.TheVariants.{Unfavorable};
 ghost use Rattle.works.specs.Explained.{Explains, ExplainsFaults, ExplainsIt, ExplainsOf, IsExplanation, shown_of};
@@ -18,11 +18,10 @@ use crate::exercise::{LONGEST_TEXT, exercise_of};
 use crate::mixing::species_of;
 use crate::refusal::Refusal;
 use crate::work::{Output, Stop, Verdict};
-use class_marker::Text;
+use class_marker::{Explanation, Text, explain_cantus, explain_mixed};
 use command_words::{Named, Subject};
 use fux_grid::Exercise;
 use fux_pitch::Memory;
-use mark_evidence::{Explanation, explain_cantus, explain_mixed};
 use std::alloc::Global;
 use text_faults::{FoundFault, explained_faults};
 
@@ -49,7 +48,7 @@ fn setting_output(alloc: Global, ex: &Exercise) -> Result<Output, Stop>
     requires { IsValid ex.now }
     ensures { Answers (ExplainsIt (ExplainsExercise ex.now)) result }
 {
-    let told = mark_evidence::explain(alloc, ex)?;
+    let told = class_marker::explain(alloc, ex)?;
     Ok(output_of(told))
 }
 

@@ -1,6 +1,6 @@
 use Rattle.std.proofs.Common.{◌++◌, codes, ap}
 use Rattle.std.specs.Fmt.{decimal}
-use Rattle.mark_evidence.proofs.Pushed.{pushed, said}
+use Rattle.class_marker.proofs.Pushed.{pushed, said}
 use Rattle.class_marker.specs.Escapes.{escaped}
 use Rattle.class_marker.specs.Pages.{differs_cell, marks_cell, row_of}
 use Rattle.class_marker.proofs.page.put_row.Goals as goal

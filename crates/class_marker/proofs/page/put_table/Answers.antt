@@ -1,5 +1,5 @@
 use Rattle.std.proofs.Common.{◌++◌, codes}
-use Rattle.mark_evidence.proofs.Pushed.{pushed}
+use Rattle.class_marker.proofs.Pushed.{pushed}
 use Rattle.class_marker.specs.Pages.{table}
 use Rattle.class_marker.proofs.page.put_table.Goals as goal
 

@@ -1,5 +1,5 @@
 use Rattle.std.proofs.Common.{◌++◌, codes, ap, ◌∙◌}
-use Rattle.mark_evidence.proofs.Pushed.{pushed, said}
+use Rattle.class_marker.proofs.Pushed.{pushed, said}
 use Rattle.class_marker.specs.declared.page.TheConstants.{HEAD}
 use Rattle.class_marker.specs.Pages.{numbered, page_of, row_of, section, symbols, table}
 use Rattle.class_marker.proofs.page.whole_page.Goals as goal

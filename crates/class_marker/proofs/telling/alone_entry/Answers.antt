@@ -1,5 +1,5 @@
 use Rattle.std.proofs.Common.{ap, sym, ◌∙◌, subst}
-use Rattle.mark_evidence.specs.Explained.{explained_marks}
+use Rattle.class_marker.specs.Explained.{explained_marks}
 use Rattle.score_marker.specs.Marks.{AreMarks}
 use Rattle.class_marker.proofs.telling.alone_entry.Goals as goal
 

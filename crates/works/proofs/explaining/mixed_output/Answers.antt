@@ -1,7 +1,7 @@
 use Rattle.std.proofs.Common.{List, ℕ, Err, inl, ap, ◌∙◌, subst}
 use Rattle.std.proofs.lemmas.Result.{err_from_is_err_and}
 use Rattle.fux_grid.specs.Exercises.{as_mixed}
-use Rattle.mark_evidence.specs.Explanations.{ExplainsBy}
+use Rattle.class_marker.specs.Explanations.{ExplainsBy}
 use Rattle.works.proofs.ExplainLemmas.{refuses_names}
 use Rattle.works.proofs.explaining.mixed_output.Goals as goal
 
