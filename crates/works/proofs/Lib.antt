@@ -29,3 +29,8 @@ pub mod WholeLemmas
 pub mod ToldLemmas
 pub mod WithinLemmas
 pub mod WorkLemmas
+pub mod BarColumns
+pub mod BookLawLemmas
+pub mod CantusLawLemmas
+pub mod CostLawLemmas
+pub mod HeldColumns

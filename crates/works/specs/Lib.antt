@@ -32,3 +32,6 @@ pub mod Texts
 pub mod WholeClasses
 pub mod Told
 pub mod Works
+pub mod BookCosts
+pub mod BookRules
+pub mod CantusCosts

@@ -2,6 +2,7 @@
 #![tactic(auto)]
 
 mod answering;
+mod canon_laws;
 mod cantus_certifying;
 mod cantus_checking;
 mod certifying;
@@ -32,6 +33,7 @@ mod telling;
 mod weighing;
 mod work;
 
+pub use canon_laws::{canons_keep_the_book, canons_pay_by_the_book, cantus_pays_by_the_book};
 pub use cantus_certifying::perform_cantus;
 pub use certifying::perform_certify;
 pub use complaint::{Complaint, FileName};

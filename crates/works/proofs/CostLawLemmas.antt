@@ -26,11 +26,11 @@ use Rattle.penalty_sheet.specs.Weights.{weight_of, charge}
 use Rattle.canon_space.specs.declared.canon.Canon.{Canon}
 use Rattle.canon_space.specs.Canons.{bar_before}
 use Rattle.canon_space.specs.Rules.{bar_cost, columns_of, columns_of_bar, four_bars, goes_on, is_inner, keeps_on, paid, penalty_of, sounded_before}
-use Rattle.canon_laws.specs.BookCosts.{CanonCostsAreTheBooks, CanonPenaltyIsTheBooks, costs_in_bar, paid_by_the_book}
-use Rattle.canon_laws.specs.BookRules.{as_exercise}
-use Rattle.canon_laws.proofs.BarColumns.{column-of_bar, earlier-bar, held_columns}
-use Rattle.canon_laws.proofs.BookLemmas.{and_left, and_none, at_bar, is_inner_bar, moves_none, no_inner_bar, no_move, numbered, still, within_bar}
-use Rattle.canon_laws.proofs.HeldColumns.{cell-held, column_held, pitches-held, previous-held, sounding-held}
+use Rattle.works.specs.BookCosts.{CanonCostsAreTheBooks, CanonPenaltyIsTheBooks, costs_in_bar, paid_by_the_book}
+use Rattle.works.specs.BookRules.{as_exercise}
+use Rattle.works.proofs.BarColumns.{column-of_bar, earlier-bar, held_columns}
+use Rattle.works.proofs.BookLawLemmas.{and_left, and_none, at_bar, is_inner_bar, moves_none, no_inner_bar, no_move, numbered, still, within_bar}
+use Rattle.works.proofs.HeldColumns.{cell-held, column_held, pitches-held, previous-held, sounding-held}
 
 -- ---- counts of voices and of pairs, and slots
 

@@ -13,7 +13,7 @@ use Rattle.melody_rules.specs.Rows.{last_of, pitches}
 use Rattle.rule_law.specs.Terms.{note_pitch, previous_pitch, starts}
 use Rattle.canon_space.specs.Canons.{bar_before}
 use Rattle.canon_space.specs.Rules.{columns_of_bar, goes_on}
-use Rattle.canon_laws.proofs.BarColumns.{held_columns}
+use Rattle.works.proofs.BarColumns.{held_columns}
 
 -- ---- within a bar
 

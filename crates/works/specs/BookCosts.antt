@@ -2,7 +2,7 @@
 -- both free voices of first species, the tolls of canons cost just what a canon's bars cost.
 use Rattle.std.specs.Prelude.{◌≡◌, ℕ, ◌+◌, ◌*◌, ◌<◌, List, [], ◌∷◌, ◌++◌, length, reverse, slice_index_or, take}
 use Rattle.std.specs.List.{range_with_len, sum_by}
-use Rattle.canon_laws.specs.BookRules.{as_exercise}
+use Rattle.works.specs.BookRules.{as_exercise}
 use Rattle.canon_space.specs.declared.canon.Canon.{Canon}
 use Rattle.canon_space.specs.Rules.{bar_cost, columns_of, penalty_of}
 use Rattle.fux_grid.specs.declared.cell.Cell.{Cell}

@@ -1,9 +1,8 @@
 //! Canons and a new cantus by the book: laws about their rules and costs and those of settings.
-#![tactic(auto)]
 
-ghost use Rattle.canon_laws.specs.BookCosts.{CanonCostsAreTheBooks, CanonPenaltyIsTheBooks};
-ghost use Rattle.canon_laws.specs.BookRules.{CanonRulesAreTheBook};
-ghost use Rattle.canon_laws.specs.CantusCosts.{CantusFloorIsTheBooks, CantusPenaltyIsTheBooks, NoteCostsAreTheBooks};
+ghost use Rattle.works.specs.BookCosts.{CanonCostsAreTheBooks, CanonPenaltyIsTheBooks};
+ghost use Rattle.works.specs.BookRules.{CanonRulesAreTheBook};
+ghost use Rattle.works.specs.CantusCosts.{CantusFloorIsTheBooks, CantusPenaltyIsTheBooks, NoteCostsAreTheBooks};
 
 /// A law, and nothing to run: a bar of a canon breaks one of its rules exactly where one of the
 /// book's is broken, for some voices, at one of the bar's eight columns, where both voices are read

@@ -23,12 +23,12 @@ use Rattle.canon_space.specs.Rules.{columns_of}
 use Rattle.cantus_space.specs.declared.plan.CantusPlan.{CantusPlan}
 use Rattle.cantus_space.specs.Melody.{charged, ends_cost}
 use Rattle.cantus_space.specs.Rules.{gauge_cost, leap_excess, least_gauges, least_melody, note_cost, paid}
-use Rattle.canon_laws.specs.BookCosts.{costs_in_bar}
-use Rattle.canon_laws.specs.CantusCosts.{CantusFloorIsTheBooks, CantusPenaltyIsTheBooks, NoteCostsAreTheBooks, alone, bars_of, note_bar, tolls_paid, voice_paid}
-use Rattle.canon_laws.proofs.BarColumns.{held_columns, reverse-columns}
-use Rattle.canon_laws.proofs.BookLemmas.{moves_none}
-use Rattle.canon_laws.proofs.CostLemmas.{charged_once, leap_in_bar, move_in_bar, row_fifth, row_repeat, row_sixth, row_third}
-use Rattle.canon_laws.proofs.HeldColumns.{pitches-held, previous-held}
+use Rattle.works.specs.BookCosts.{costs_in_bar}
+use Rattle.works.specs.CantusCosts.{CantusFloorIsTheBooks, CantusPenaltyIsTheBooks, NoteCostsAreTheBooks, alone, bars_of, note_bar, tolls_paid, voice_paid}
+use Rattle.works.proofs.BarColumns.{held_columns, reverse-columns}
+use Rattle.works.proofs.BookLawLemmas.{moves_none}
+use Rattle.works.proofs.CostLawLemmas.{charged_once, leap_in_bar, move_in_bar, row_fifth, row_repeat, row_sixth, row_third}
+use Rattle.works.proofs.HeldColumns.{pitches-held, previous-held}
 
 -- ---- the line of one voice
 

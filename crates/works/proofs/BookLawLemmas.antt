@@ -28,9 +28,9 @@ use Rattle.dissonance_rules.specs.Rows.{clash_at_start, meet_in_unison}
 use Rattle.rhythm_cadence.specs.Rows.{begins_last_bar, ends_badly, lacks_final}
 use Rattle.canon_space.specs.declared.canon.Canon.{Canon}
 use Rattle.canon_space.specs.Rules.{breaks_pair, breaks_voice, columns_of, ends_apart, ends_off_final, goes_on, is_inner, is_last, pair_rules, voice_rules}
-use Rattle.canon_laws.specs.BookRules.{CanonRulesAreTheBook, as_exercise, breaks_in_bar}
-use Rattle.canon_laws.proofs.BarColumns.{column-of_bar, earlier-bar, held_columns}
-use Rattle.canon_laws.proofs.HeldColumns.{cell-held, column_held, pitches-held, previous-held, sounding-held, starts-held}
+use Rattle.works.specs.BookRules.{CanonRulesAreTheBook, as_exercise, breaks_in_bar}
+use Rattle.works.proofs.BarColumns.{column-of_bar, earlier-bar, held_columns}
+use Rattle.works.proofs.HeldColumns.{cell-held, column_held, pitches-held, previous-held, sounding-held, starts-held}
 
 -- ---- sets of voices, and slots
 

@@ -2,7 +2,7 @@
 -- species alone, whose notes each fill a bar, it pays just what the book's tolls of one voice and
 -- the gauges of its line cost, and beyond that the prices of a cantus alone.
 use Rattle.std.specs.Prelude.{◌≡◌, ℕ, ◌+◌, List, [], ◌∷◌, ◌++◌, None, length, map, reverse}
-use Rattle.canon_laws.specs.BookCosts.{tolls_in_bar, voice_tolls}
+use Rattle.works.specs.BookCosts.{tolls_in_bar, voice_tolls}
 use Rattle.canon_space.specs.Rules.{columns_of}
 use Rattle.cantus_space.specs.declared.plan.CantusPlan.{CantusPlan}
 use Rattle.cantus_space.specs.Lawful.{penalty_of}

@@ -1,3 +1,0 @@
-pub mod BookCosts
-pub mod BookRules
-pub mod CantusCosts
