@@ -276,7 +276,7 @@ def marks():
 
 def sentences_of_rules():
     """The sentences of docs/rules.md, against those of the program, which go by number."""
-    code = text_of("crates/mark_evidence/src/sentences.rt")
+    code = text_of("crates/class_marker/src/sentences.rt")
     told = re.findall(r'^ +(?:\d+|_) => "(.*)",$', code, re.M)
     names = [f"S{n}" for n in range(1, 29)] + ["K1", "K2", "K3"]
     wanted = [f"- {name}: {it}" for name, it in zip(names, told)]

@@ -1,4 +1,5 @@
-//! What each command makes of its files, and what is said where it makes nothing.
+//! What each command makes of its files, and what is said where it makes nothing; and laws of what is
+//! made: what one command tells of what another wrote, and what canons and a new cantus pay by the book.
 #![tactic(auto)]
 
 mod answering;
