@@ -2,7 +2,7 @@
 -- claim of each list of pitches is true (`first_claim_true`), since a whole lawful cantus is the
 -- head's, or no better.
 use Rattle.std.specs.Prelude.{◌≡◌, ◌≢◌, ◌⊎◌, ℕ, zero, suc, ◌+◌, ◌<◌, ◌≤◌, ◌==◌, nat_lt, Bool, true, false, not, ◌&&◌, ◌||◌, List, [], ◌∷◌, ◌++◌, Option, Some, None, length, map, reverse, refl, if◌then◌else◌}
-use Rattle.std.specs.List.{AllByRecursion, filter, find, list_any, range_with_len}
+use Rattle.std.specs.List.{AllByRecursion, filter, list_any, range_with_len}
 use Rattle.std.specs.Option.{option_map_or}
 use Rattle.std.specs.declared.cmp.Ordering.{Ordering}
 use Rattle.std.specs.declared.cmp.Ordering.TheVariants.{Less, Equal, Greater}
@@ -27,30 +27,12 @@ use Rattle.cantus_space.specs.Lawful.{IsEarlier, IsLawful, penalty_of}
 use Rattle.cantus_space.specs.Numbers.{WIDTH, numbered_pitch}
 use Rattle.cantus_space.specs.Rules.{breaks, breaks_some_rule, floor_of, is_live, may_come, rules}
 use Rattle.cantus_check.specs.Begun.{floor_at_end}
-use Rattle.cert_tree.proofs.OwnClaims.{written_from}
+use Rattle.cert_tree.proofs.Finds.{find_passes, none_found}
+use Rattle.cert_tree.proofs.OwnClaims.{true_from, written_from}
 use Rattle.cantus_check.specs.Certificates.{Holds, IsCantusCertificate, IsHeadSound, is_open, tree_of}
 use Rattle.cantus_check.specs.Claims.{IsCantusOf, IsNoBetter, IsTrueOf, Said, has_break_of, longer_lists}
 use Rattle.cantus_check.specs.Orders.{earlier-cases, earlier-itself, pitch-itself}
 use Rattle.cantus_check.specs.Writer.{claims_of, first_claim, is_cantus_of, is_no_better, least_break, pitches_order, unbroken_claim}
-
--- ---- tests
-
-find_passes : (test : ℕ → Bool) (xs : List ℕ) (x : ℕ) → find test xs ≡ Some x → test x ≡ true
-find_passes test [] x h = cc
-find_passes test (y ∷ ys) x h = at (cases_Bool (test y)) (find_passes test ys x)
-  where
-    at : (test y ≡ true) ⊎ (test y ≡ false) → (find test ys ≡ Some x → test x ≡ true) → test x ≡ true
-    at (inl t) later = let same : Some y ≡ Some x = rw t at h in let one : y ≡ x = cc in ap test (sym one) ∙ t
-    at (inr f) later = later (rw f at h)
-
-none_found : (test : ℕ → Bool) (xs : List ℕ) → find test xs ≡ None → list_any test xs ≡ false
-none_found test [] h = refl
-none_found test (y ∷ ys) h = at (cases_Bool (test y)) (none_found test ys)
-  where
-    at : (test y ≡ true) ⊎ (test y ≡ false) → (find test ys ≡ None → list_any test ys ≡ false) → list_any test (y ∷ ys)
-        ≡ false
-    at (inl t) later = let same : Some y ≡ None = rw t at h in cc
-    at (inr f) later = rw f (later (rw f at h))
 
 -- ---- how two lists go
 
@@ -297,24 +279,11 @@ module _ (plan : CantusPlan) (said : Said) (holds : Holds plan said) where
   ended ps Floor whole h = refl
   ended ps TheScore whole h = refl
 
-  every : {P Q : List Pitch → Type 0} (pss : List (List Pitch)) → ((ps : List Pitch) → P ps → Q ps)
-      → AllByRecursion P pss → AllByRecursion Q pss
-  every [] f h = tt
-  every (ps ∷ pss) f h = (f ps h.0, every pss f h.1)
-
-  are_true : (count : ℕ) (ps : List Pitch) → IsPooledBefore plan count ps
-      → AreTrueFrom (tree_of plan said) (first_claim plan said) count ps
-  are_true zero ps before =
-      let holds_of = first_claim_true zero ps before in
-      (holds_of, ended ps (first_claim plan said ps) (omega (arith, before.size)) holds_of)
-  are_true (suc count) ps before = (
-    first_claim_true (suc count) ps before,
-    λ _. every {P = IsPooledBefore plan count} {Q = AreTrueFrom (tree_of plan said) (first_claim plan said) count}
-        (longer_lists plan ps) (are_true count) (each_longer count ps before),
-  )
-
   pub all_true : AreTrueFrom (tree_of plan said) (first_claim plan said) plan.bars []
-  all_true = are_true plan.bars [] record { pooled = refl; size = omega arith }
+  all_true =
+      true_from (tree_of plan said) (first_claim plan said) (IsPooledBefore plan) first_claim_true
+      (λ ps before. ended ps (first_claim plan said ps) (omega (arith, before.size)) (first_claim_true zero ps before))
+      each_longer plan.bars [] record { pooled = refl; size = omega arith }
 
 -- a head that holds is sound
 pub sound_if_holds : (plan : CantusPlan) (said : Said) → Holds plan said → IsHeadSound plan said

@@ -1,8 +1,8 @@
 -- Own claims that are true of each prefix are true of each that is owed (`owed_are_true`); where no rule
 -- is found broken, no strict break is settled (`unbroken_if_none`); a head that holds is sound
 -- (`sound`).
-use Rattle.std.proofs.Common.{◌≡◌, ◌⊎◌, inl, inr, ℕ, zero, suc, ◌+◌, ◌<◌, ◌≤◌, Bool, true, false, ◌&&◌, ◌||◌, List, [], ◌∷◌, ◌++◌, length, map, reverse, slice_index_or, take, Some, None, refl, ap, sym, ◌∙◌, arith}
-use Rattle.std.specs.List.{AllByRecursion, filter, find, list_all, list_any}
+use Rattle.std.proofs.Common.{◌≡◌, ◌⊎◌, inl, inr, ℕ, suc, ◌+◌, ◌<◌, ◌≤◌, Bool, true, false, ◌&&◌, ◌||◌, List, [], ◌∷◌, ◌++◌, length, map, reverse, slice_index_or, take, None, refl, ap, sym, ◌∙◌, arith}
+use Rattle.std.specs.List.{AllByRecursion, filter, list_all, list_any}
 use Rattle.std.proofs.lemmas.Bool.{and_parts, cases_Bool}
 use Rattle.std.proofs.lemmas.List.{length-append}
 use Rattle.std.proofs.lemmas.List.Elements.{Contains-get_or, recursion_from_All}
@@ -10,6 +10,8 @@ use Rattle.cert_text.specs.declared.answers.CertHead.{CertHead}
 use Rattle.cert_text.specs.declared.answers.CertHead.TheVariants.{Best, Nothing}
 use Rattle.cert_text.specs.declared.claim.Claim.{Claim}
 use Rattle.cert_text.specs.declared.claim.Claim.TheVariants.{Open, Broken, NoChain, Floor, TheScore}
+use Rattle.cert_tree.proofs.Finds.{none_found}
+use Rattle.cert_tree.proofs.OwnClaims.{true_from}
 use Rattle.cert_tree.specs.Trees.{AreTrueFrom, Tree}
 use Rattle.cert_law.specs.Certificates.{Holds, IsHeadSound, is_open}
 use Rattle.cert_law.specs.Claims.{has_break_of, longer_prefixes}
@@ -30,23 +32,6 @@ use Rattle.rule_law.specs.Growth.{any_below, any_below-list_any}
 use Rattle.rule_law.specs.Prefixes.{IsPrefix}
 
 -- ---- breaks
-
-pub find_passes : (test : ℕ → Bool) (xs : List ℕ) (x : ℕ) → find test xs ≡ Some x → test x ≡ true
-find_passes test [] x h = cc
-find_passes test (y ∷ ys) x h = at (cases_Bool (test y)) (find_passes test ys x)
-  where
-    at : (test y ≡ true) ⊎ (test y ≡ false) → (find test ys ≡ Some x → test x ≡ true) → test x ≡ true
-    at (inl t) later = let same : Some y ≡ Some x = rw t at h in let one : y ≡ x = cc in ap test (sym one) ∙ t
-    at (inr f) later = later (rw f at h)
-
-none_found : (test : ℕ → Bool) (xs : List ℕ) → find test xs ≡ None → list_any test xs ≡ false
-none_found test [] h = refl
-none_found test (y ∷ ys) h = at (cases_Bool (test y)) (none_found test ys)
-  where
-    at : (test y ≡ true) ⊎ (test y ≡ false) → (find test ys ≡ None → list_any test ys ≡ false) → list_any test (y ∷ ys)
-        ≡ false
-    at (inl t) later = let same : Some y ≡ None = rw t at h in cc
-    at (inr f) later = rw f (later (rw f at h))
 
 -- each rule of the list is read
 all_read : list_all is_read rules_read ≡ true
@@ -133,23 +118,9 @@ module _ (ex : Exercise) (IsTrueOf : List (List Cell) → Claim → Type 0) (own
   closed p Floor whole h = refl
   closed p TheScore whole h = refl
 
-  every : {P Q : List (List Cell) → Type 0} (ps : List (List (List Cell))) → ((p : List (List Cell)) → P p → Q p)
-      → AllByRecursion P ps → AllByRecursion Q ps
-  every [] f h = tt
-  every (p ∷ ps) f h = (f p h.0, every ps f h.1)
-
-  are_true : (count : ℕ) (p : List (List Cell)) → IsPrefixBefore count p
-      → AreTrueFrom prefix_tree own count p
-  are_true zero p before =
-      let holds_of = own_true p before.prefix in
-      (holds_of, closed p (own p) (omega (arith, before.size)) holds_of)
-  are_true (suc count) p before = (
-    own_true p before.prefix,
-    λ _. every {P = IsPrefixBefore count} {Q = AreTrueFrom prefix_tree own count}
-        (longer_prefixes ex p) (are_true count) (each_longer count p before),
-  )
-
   pub owed_are_true : AreTrueFrom prefix_tree own (columns_in ex) []
   owed_are_true =
       let empty : IsPrefix ex [] = record { few = omega arith; menus = λ i h. absurd (omega arith); follows = tt } in
-      are_true (columns_in ex) [] record { prefix = empty; size = omega arith }
+      true_from prefix_tree own IsPrefixBefore (λ count p before. own_true p before.prefix)
+      (λ p before. closed p (own p) (omega (arith, before.size)) (own_true p before.prefix)) each_longer (columns_in ex) []
+      record { prefix = empty; size = omega arith }

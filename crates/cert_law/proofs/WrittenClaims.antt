@@ -15,6 +15,7 @@ use Rattle.cert_text.specs.declared.answers.CertHead.TheVariants.{Best, Nothing}
 use Rattle.cert_text.specs.declared.claim.Claim.{Claim}
 use Rattle.cert_text.specs.declared.claim.Claim.TheVariants.{Open, Broken, NoChain, Floor, TheScore}
 use Rattle.cert_tree.proofs.OwnClaims.{written_from}
+use Rattle.cert_tree.proofs.Finds.{find_passes}
 use Rattle.cert_tree.specs.Trees.{AreTrueFrom, IsCertifiedFrom, claims_from}
 use Rattle.cert_law.specs.Certificates.{Holds, IsCertificate, is_open, tree_of}
 use Rattle.cert_law.specs.Entries.{AreTrueEntries}
@@ -26,7 +27,7 @@ use Rattle.cert_law.proofs.FloorFacts.{FloorsHold}
 use Rattle.cert_law.proofs.RestEntries.{rests_are_true}
 use Rattle.cert_law.proofs.TailLemmas.{tail_is_rest, used-floor}
 use Rattle.cert_law.specs.Writer.{claims_of, columns_order, first_claim, is_no_better, is_setting_of, least_break, unbroken_claim}
-use Rattle.cert_law.proofs.PrefixTruths.{find_passes, owed_are_true, sound, unbroken_if_none}
+use Rattle.cert_law.proofs.PrefixTruths.{owed_are_true, sound, unbroken_if_none}
 use Rattle.cert_law.proofs.Orders.{less-order, order-equal, order-itself, order-less}
 use Rattle.floor_tables.specs.Floors.{rest_of}
 use Rattle.fux_grid.specs.declared.cell.Cell.{Cell}

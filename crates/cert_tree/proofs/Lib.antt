@@ -1,4 +1,5 @@
 pub mod Fed
+pub mod Finds
 pub mod Levels
 pub mod NextClaims
 pub mod OwnClaims

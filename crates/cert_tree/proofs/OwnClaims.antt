@@ -1,10 +1,16 @@
 -- Own claims that are true are certified (`written_from`): so are the claims of several nodes, one
--- after the other (`certified-append`).
+-- after the other (`certified-append`). They are true from a node on where they are of each node
+-- that may come (`true_from`, by `each_of`).
 use Rattle.std.proofs.Common.{◌≡◌, ℕ, zero, suc, Bool, true, false, List, [], ◌∷◌, ◌++◌, refl, sym, subst, append_assoc}
 use Rattle.std.specs.Prelude.{if◌then◌else◌}
 use Rattle.std.specs.List.{AllByRecursion, flat_map}
 use Rattle.std.proofs.lemmas.List.{append-nil}
 use Rattle.cert_tree.specs.Trees.{AreTrueFrom, IsCertified, IsCertifiedFrom, Tree, claims_from, owed_by}
+
+pub each_of : {X : Type 0} {P Q : X → Type 0} (xs : List X) → ((x : X) → P x → Q x) → AllByRecursion P xs
+    → AllByRecursion Q xs
+each_of [] f all = tt
+each_of (x ∷ xs) f all = (f x all.0, each_of xs f all.1)
 
 module _ {X C : Type 0} (tree : Tree X C) where
   -- what is certified of two rows of nodes is certified of both together
@@ -53,3 +59,17 @@ module _ {X C : Type 0} (tree : Tree X C) where
       goes_on count p (tree.is_open (own p)) refl
           (λ h. each_written count (tree.longer p) (written_from count) (holds.1 h)),
     )
+
+    -- nodes with so many steps still to come, of each of which the own claim is true, and open at
+    -- none where none may come
+    module _ (IsBefore : ℕ → X → Type 0) (holds : (count : ℕ) (p : X) → IsBefore count p → tree.IsTrueOf p (own p))
+        (closed : (p : X) → IsBefore zero p → tree.is_open (own p) ≡ false)
+        (longer : (count : ℕ) (p : X) → IsBefore (suc count) p → AllByRecursion (IsBefore count) (tree.longer p))
+      where
+        pub true_from : (count : ℕ) (p : X) → IsBefore count p → AreTrueFrom tree own count p
+        true_from zero p before = (holds zero p before, closed p before)
+        true_from (suc count) p before = (
+          holds (suc count) p before,
+          λ _. each_of {P = IsBefore count} {Q = AreTrueFrom tree own count} (tree.longer p) (true_from count)
+              (longer count p before),
+        )

@@ -13,12 +13,13 @@ use Rattle.cert_text.specs.declared.answers.CertHead.{CertHead}
 use Rattle.cert_text.specs.declared.answers.CertHead.TheVariants.{Best, Nothing}
 use Rattle.cert_text.specs.declared.claim.Claim.TheVariants.{Open, Broken, NoChain, Floor, TheScore}
 use Rattle.cert_tree.proofs.OwnClaims.{written_from}
+use Rattle.cert_tree.proofs.Finds.{find_passes}
 use Rattle.cert_tree.specs.Trees.{AreTrueFrom}
 use Rattle.cert_law.specs.Certificates.{Holds}
 use Rattle.cert_law.specs.Claims.{IsNoBetter, has_break_of}
 use Rattle.cert_law.specs.Writer.{columns_order, is_no_better, is_setting_of, least_break}
 use Rattle.cert_law.proofs.Orders.{less-order}
-use Rattle.cert_law.proofs.PrefixTruths.{find_passes, owed_are_true, sound, unbroken_if_none}
+use Rattle.cert_law.proofs.PrefixTruths.{owed_are_true, sound, unbroken_if_none}
 use Rattle.cert_law.proofs.WrittenClaims.{no_better_from_test, setting_from_test, test_from_setting}
 use Rattle.fux_grid.specs.declared.cell.Cell.{Cell}
 use Rattle.fux_grid.specs.declared.exercise.Exercise.{Exercise}

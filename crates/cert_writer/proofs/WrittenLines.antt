@@ -10,6 +10,7 @@ use Rattle.cert_text.specs.declared.claim.Claim.{Claim}
 use Rattle.cert_text.specs.declared.claim.Claim.TheVariants.{Open, Broken, NoChain, Floor, TheScore}
 use Rattle.cert_text.specs.Lines.{IsClaim}
 use Rattle.cert_tree.proofs.OwnClaims.{written_from}
+use Rattle.cert_tree.proofs.OwnClaims.{each_of}
 use Rattle.cert_tree.specs.Trees.{AreTrueFrom, claims_from}
 use Rattle.cert_law.proofs.PrefixTruths.{sound}
 use Rattle.cert_law.specs.Cases.{Matter}
@@ -41,18 +42,13 @@ use Rattle.cert_writer.specs.Certificates.{IsPricedCertificateOf, with_claims}
 
 module _ (ex : Exercise) (sheet : Sheet) (head : CertHead) (lines : List Line) (lists : List PriceList)
     (stated : AreStated sheet lines lists) (own : List (List Cell) → Claim) where
-  each : {P Q : List (List Cell) → Type 0} (ps : List (List (List Cell))) → ((p : List (List Cell)) → P p → Q p)
-      → AllByRecursion P ps → AllByRecursion Q ps
-  each [] f h = tt
-  each (p ∷ ps) f h = (f p h.0, each ps f h.1)
-
   -- what is true by lists is true by the lines that state them
   pub of_lines : (count : ℕ) (p : List (List Cell)) → AreTrueFrom (sharp_tree ex sheet head lists) own count p
       → AreTrueFrom (stated_tree ex sheet head lines) own count p
   of_lines zero p h = (record { lists = lists; stated = stated; holds = h.0 }, h.1)
   of_lines (suc count) p h = (
     record { lists = lists; stated = stated; holds = h.0 },
-    λ e. each {P = AreTrueFrom (sharp_tree ex sheet head lists) own count}
+    λ e. each_of {P = AreTrueFrom (sharp_tree ex sheet head lists) own count}
         {Q = AreTrueFrom (stated_tree ex sheet head lines) own count} (longer_prefixes ex p) (of_lines count) (h.1 e),
   )
 
