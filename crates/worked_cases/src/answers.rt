@@ -51,7 +51,7 @@ const TABLES: [(Asked, &str); 20] = [
     (Asked::Range, menus::BARS),
     (Asked::GivenMenu, menus::GIVEN_MENUS),
     (Asked::GivenBar, menus::GIVEN_BARS),
-    (Asked::Mixed, mixed::MIXED),
+    (Asked::Mixed, given::MIXED),
 ];
 
 /// What is answered of a case.
