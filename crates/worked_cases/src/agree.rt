@@ -5,8 +5,10 @@
 
 use std::process::Abort;
 
-/// Ends the test where something else was found of a case than is wanted.
-pub fn agree(rt: &impl Abort, case: &str, found: &str, wanted: &str) {
+/// Ends the test where something else was found of a case than is wanted, or where it can't be
+/// read.
+pub fn agree(rt: &impl Abort, case: &str, found: Option<&str>, wanted: &str) {
+    let found = found.unwrap_or("what can be read");
     assert!(rt; found == wanted, "{case}, not {found}");
 }
 

@@ -4,7 +4,6 @@ use crate::agree::agree;
 use crate::{given, menus, notes, pitches};
 use std::alloc::Global;
 use std::process::Abort;
-use std::test::Fail;
 
 /// What a table asks.
 #[derive(Clone, Copy)]
@@ -54,8 +53,8 @@ const TABLES: [(Asked, &str); 20] = [
     (Asked::Mixed, given::MIXED),
 ];
 
-/// What is answered of a case.
-fn answer(alloc: Global, asked: Asked, case: &str) -> Result<String, Fail> {
+/// What is answered of a case that can be read.
+fn answer(alloc: Global, asked: Asked, case: &str) -> Option<String> {
     match asked {
         Asked::Key => pitches::key_of(alloc, case),
         Asked::Spelling => pitches::spelling_of(alloc, case),
@@ -82,19 +81,20 @@ fn answer(alloc: Global, asked: Asked, case: &str) -> Result<String, Fail> {
 
 /// Goes through a table, each line of which has a case and its answer, with ` = ` between them, and
 /// ends the test at the first case that is answered otherwise.
-fn compare(rt: &impl Abort, alloc: Global, asked: Asked, table: &str) -> Result<(), Fail> {
+fn compare(rt: &impl Abort, alloc: Global, asked: Asked, table: &str) {
     for line in table.lines() {
-        let (case, wanted) = line.split_once(" = ").ok_or("no answer")?;
-        let found = answer(alloc, asked, case)?;
-        agree(rt, line, found.as_str(), wanted);
+        match line.split_once(" = ") {
+            Some((case, wanted)) => {
+                agree(rt, line, answer(alloc, asked, case).as_deref(), wanted)
+            }
+            None => agree(rt, line, None, "an answer"),
+        }
     }
-    Ok(())
 }
 
 #[test]
-fn worked_values_stand(rt: HostRuntime) -> Result<(), Fail> {
+fn worked_values_stand(rt: HostRuntime) {
     for (asked, table) in TABLES {
-        compare(&rt, rt.alloc(), asked, table)?;
+        compare(&rt, rt.alloc(), asked, table);
     }
-    Ok(())
 }

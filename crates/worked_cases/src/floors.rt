@@ -8,28 +8,27 @@ use fux_grid::{Cell, Exercise, cell_of};
 use fux_judge::{State, step};
 use fux_pitch::parse_pitch;
 use penalty_sheet::Sheet;
-use std::test::Fail;
 
 /// The cell of voice 1 at a place, by the name of its note in each bar.
-fn cell_at(notes: &str, i: usize) -> Result<Cell, Fail> {
-    let name = notes.split(' ').nth(i / 8).ok_or("no note")?;
-    let pitch = parse_pitch(name.as_bytes()).ok_or("no pitch")?;
+fn cell_at(notes: &str, i: usize) -> Option<Cell> {
+    let name = notes.split(' ').nth(i / 8)?;
+    let pitch = parse_pitch(name.as_bytes())?;
     if i % 8 == 0 {
-        return Ok(Cell::Start(pitch));
+        return Some(Cell::Start(pitch));
     }
-    Ok(Cell::Hold(pitch))
+    Some(Cell::Hold(pitch))
 }
 
 /// The number of the column of a place in which voice 1 has this cell.
-fn number_of(tables: &Tables<'_>, i: usize, cell: Cell) -> Result<usize, Fail>
+fn number_of(tables: &Tables<'_>, i: usize, cell: Cell) -> Option<usize>
     requires { i < columns_in tables.now.exercise }
 {
     for k in 0..tables.width(i) {
         if cell_of(tables.column(i, k), 1) == cell {
-            return Ok(k);
+            return Some(k);
         }
     }
-    Err("no such column".into())
+    None
 }
 
 /// The floor of the prefix of a length, in which voice 1 has these notes, one for each bar.
@@ -39,7 +38,7 @@ pub fn floor(
     tables: &Tables<'_>,
     notes: &str,
     length: usize,
-) -> Result<u64, Fail>
+) -> Option<u64>
     requires valid { IsValid exercise.now }
     requires same { tables.now.exercise ≡ exercise.now }
 {
@@ -49,15 +48,15 @@ pub fn floor(
     for _ in 0..length {
         let i = state.newest.len;
         if i >= 8 * usize::from(exercise.bars) {
-            return Err("too long".into());
+            return None;
         }
         let k = number_of(tables, i, cell_at(notes, i)?)?;
         if k >= tables.width(i) {
-            return Err("no such column".into());
+            return None;
         }
         let column = tables.column(i, k);
         if column.len() != usize::from(exercise.voices) {
-            return Err("no full column".into());
+            return None;
         }
         let verdict = step(exercise, sheet, &state, column);
         paid = paid.saturating_add(verdict.paid);
@@ -67,5 +66,5 @@ pub fn floor(
         };
         state = verdict.state;
     }
-    Ok(floor.ok_or("no floor")?)
+    Some(floor?)
 }

@@ -10,16 +10,9 @@ use melody_rules::{Q17, Q18, Q19, Q20, is_narrow, leap_excess};
 use rhythm_cadence::{note, unbegun};
 use rule_law::Gauge;
 use std::fmt::Write;
-use std::test::Fail;
 
 /// The columns and sets of voices for which a rule is broken, from a column on.
-fn add_breaks(
-    text: &mut String,
-    rule: u8,
-    ex: &Exercise,
-    score: &Score,
-    from: usize,
-) -> Result<(), Fail>
+fn add_breaks(text: &mut String, rule: u8, ex: &Exercise, score: &Score, from: usize) -> Option<()>
     requires valid { IsValid ex.now }
     requires voices { score.now.voices ≡ ex.now.voices }
     requires few { length score.now.columns ≤ columns_in ex.now }
@@ -30,21 +23,15 @@ fn add_breaks(
             if is_settled_in(rule, ex, score, i, voices)
                 && is_broken_in(rule, ex, score, i, voices)
             {
-                write!(text, "\nS{rule} {i} {bits}")?;
+                write!(text, "\nS{rule} {i} {bits}").ok()?;
             }
         }
     }
-    Ok(())
+    Some(())
 }
 
 /// The columns at which a toll costs something, from a column on.
-fn add_costs(
-    text: &mut String,
-    toll: u8,
-    ex: &Exercise,
-    score: &Score,
-    from: usize,
-) -> Result<(), Fail>
+fn add_costs(text: &mut String, toll: u8, ex: &Exercise, score: &Score, from: usize) -> Option<()>
     requires valid { IsValid ex.now }
     requires voices { score.now.voices ≡ ex.now.voices }
     requires few { length score.now.columns ≤ columns_in ex.now }
@@ -52,12 +39,12 @@ fn add_costs(
     for i in from..score.len() {
         let cost = cost_in(toll, ex, score, i);
         if !is_cost_settled_in(toll, ex, score, i) {
-            write!(text, "\nQ{toll} {i} unsettled")?;
+            write!(text, "\nQ{toll} {i} unsettled").ok()?;
         } else if cost > 0 {
-            write!(text, "\nQ{toll} {i} {cost}")?;
+            write!(text, "\nQ{toll} {i} {cost}").ok()?;
         }
     }
-    Ok(())
+    Some(())
 }
 
 /// What a gauge keeps of a whole voice.
@@ -73,7 +60,7 @@ fn state<G: Gauge>(it: &G, ex: &Exercise, score: &Score, v: u8) -> G::State
 }
 
 /// The values of a gauge for the free voices.
-fn add_values(text: &mut String, number: u8, ex: &Exercise, score: &Score) -> Result<(), Fail>
+fn add_values(text: &mut String, number: u8, ex: &Exercise, score: &Score) -> Option<()>
     requires valid { IsValid ex.now }
     requires few { length score.now.columns ≤ columns_in ex.now }
 {
@@ -85,15 +72,15 @@ fn add_values(text: &mut String, number: u8, ex: &Exercise, score: &Score) -> Re
             _ => u32::from(state(&Q20, ex, score, v).beyond),
         };
         if v != ex.cantus_voice && value > 0 {
-            write!(text, "\nQ{number} {v} {value}")?;
+            write!(text, "\nQ{number} {v} {value}").ok()?;
         }
     }
-    Ok(())
+    Some(())
 }
 
 /// Whether S3 is settled for voice 1 in the first bar and broken, and the bits of the shapes that
 /// its cells so far begin.
-fn add_shapes(text: &mut String, ex: &Exercise, score: &Score) -> Result<(), Fail>
+fn add_shapes(text: &mut String, ex: &Exercise, score: &Score) -> Option<()>
     requires valid { IsValid ex.now }
     requires voices { score.now.voices ≡ ex.now.voices }
     requires few { length score.now.columns ≤ columns_in ex.now }
@@ -107,9 +94,9 @@ fn add_shapes(text: &mut String, ex: &Exercise, score: &Score) -> Result<(), Fai
         let settled = is_settled_in(3, ex, score, 0, voices);
         let broken = is_broken_in(3, ex, score, 0, voices);
         let left = part.possible[1];
-        write!(text, "\nsettled {settled}, broken {broken}, left {left}")?;
+        write!(text, "\nsettled {settled}, broken {broken}, left {left}").ok()?;
     }
-    Ok(())
+    Some(())
 }
 
 /// What stands of what is asked, from a column on.
@@ -119,16 +106,16 @@ pub fn add_found(
     ex: &Exercise,
     score: &Score,
     from: usize,
-) -> Result<(), Fail>
+) -> Option<()>
     requires valid { IsValid ex.now }
     requires voices { score.now.voices ≡ ex.now.voices }
     requires few { length score.now.columns ≤ columns_in ex.now }
 {
     for word in asked.split(' ') {
         if let Some(rule) = word.strip_prefix('S') {
-            add_breaks(text, rule.parse::<u8>()?, ex, score, from)?;
+            add_breaks(text, rule.parse::<u8>().ok()?, ex, score, from)?;
         } else if let Some(number) = word.strip_prefix('Q') {
-            let number = number.parse::<u8>()?;
+            let number = number.parse::<u8>().ok()?;
             if number > 16 && number < 21 {
                 add_values(text, number, ex, score)?;
             } else {
@@ -138,5 +125,5 @@ pub fn add_found(
             add_shapes(text, ex, score)?;
         }
     }
-    Ok(())
+    Some(())
 }

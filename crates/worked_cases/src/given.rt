@@ -2,11 +2,9 @@
 
 ghost use Rattle.fux_grid.specs.Exercises.{IsValid};
 
-use crate::words::number;
-use fux_grid::{Exercise, is_mixed, mixed_as, species_of, width};
-use short_scores::exercise_of;
+use fux_grid::{Exercise, is_mixed, species_of, width};
+use short_scores::any_exercise_of;
 use std::alloc::Global;
-use std::test::Fail;
 
 /// The cantus below a voice with three pitches, in first species, and one with five, in second
 /// species.
@@ -30,23 +28,23 @@ pub const MIXED: &str = "\
 1 2 0 = refused
 1 6 2 = refused";
 
-fn told(alloc: Global, ex: &Exercise) -> Result<String, Fail>
+fn told(alloc: Global, ex: &Exercise) -> Option<String>
     requires { IsValid ex.now }
 {
     let (lower, upper) = (species_of(ex, 1), species_of(ex, 2));
-    Ok(format!(in alloc;
+    format!(in alloc;
         "species {lower} {upper}, width {} {}",
         width(ex, 0),
         width(ex, 4)
-    )?)
+    )
+    .ok()
 }
 
-pub fn mixed_of(alloc: Global, case: &str) -> Result<String, Fail> {
-    let trio = exercise_of(alloc, TRIO, 3)?;
-    let species = [number(case, 0)?, number(case, 1)?, number(case, 2)?, 1];
-    let ex = mixed_as(&trio, species);
-    if is_mixed(&trio) || !is_mixed(&ex) || !ex.is_valid() {
-        return Ok(String::from_str(alloc, "refused")?);
+pub fn mixed_of(alloc: Global, case: &str) -> Option<String> {
+    let text = format!(in alloc; "{TRIO}\nmixed {case}").ok()?;
+    let ex = any_exercise_of(alloc, &text, 3)?;
+    if !is_mixed(&ex) || !ex.is_valid() {
+        return String::from_str(alloc, "refused").ok();
     }
     told(alloc, &ex)
 }

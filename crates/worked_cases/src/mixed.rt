@@ -5,78 +5,51 @@ ghost use Rattle.fux_grid.specs.Exercises.{IsValid, columns_in};
 
 use crate::agree::agree;
 use crate::mixed_tables::{JUDGED, WORKED};
-use crate::parts::parts;
-use fux_grid::{Exercise, Score, mixed_as};
+use crate::parts::{parts, wanted};
+use fux_grid::{Exercise, Score};
 use score_marker::{Mark, marks};
 use short_scores::case_of;
 use std::alloc::Global;
 use std::fmt::Write;
-use std::process::Abort;
-use std::test::Fail;
-
-/// The species of the line that begins with `mixed`, by voice, and 1 for the voices beyond its end.
-pub fn species_of_line(text: &str) -> Result<[u8; 4], Fail> {
-    let mut species = [1u8; 4];
-    for line in text.lines() {
-        if let Some(line) = line.strip_prefix("mixed ") {
-            for (place, word) in species.iter_mut().zip(line.split(' ')) {
-                *place = word.parse::<u8>()?;
-            }
-            return Ok(species);
-        }
-    }
-    Err("no species".into())
-}
 
 /// A line for each mark of S15, S27 and S28, with a line's end before it.
-fn shown(alloc: Global, marks: &[Mark]) -> Result<String, Fail> {
+fn shown(alloc: Global, marks: &[Mark]) -> Option<String> {
     let mut text = String::new(alloc);
     for mark in marks {
         if matches!(mark.rule, 15 | 27 | 28) {
             let bits = mark.voices.bits;
-            write!(text, "\n{} {} S{} {bits}", mark.bar, mark.slot, mark.rule)?;
+            write!(text, "\n{} {} S{} {bits}", mark.bar, mark.slot, mark.rule).ok()?;
         }
     }
-    Ok(text)
+    Some(text)
 }
 
-/// Compares the marks of a score with those that are wanted.
-fn compare(
-    rt: &impl Abort,
-    alloc: Global,
-    ex: &Exercise,
-    score: &Score,
-    text: &str,
-    wanted: &str,
-) -> Result<(), Fail>
+/// The marks of a score, where it is as long as the exercise.
+fn marks_of(alloc: Global, ex: &Exercise, score: &Score) -> Option<String>
     requires valid { IsValid ex.now }
     requires voices { score.now.voices ≡ ex.now.voices }
     requires few { length score.now.columns ≤ columns_in ex.now }
 {
     if score.len() != 8 * usize::from(ex.bars) {
-        return Err("no whole score".into());
+        return None;
     }
-    let found = marks(alloc, ex, score)?;
-    agree(rt, text, shown(alloc, &found)?.as_str(), wanted);
-    Ok(())
+    let found = marks(alloc, ex, score).ok()?;
+    shown(alloc, &found)
 }
 
-/// Each setting of a table has its marks.
-fn mark_all(rt: &impl Abort, alloc: Global, table: &str) -> Result<(), Fail> {
-    for text in table.split("\n\n") {
-        let (text, wanted) = parts(text)?;
-        let case = case_of(alloc, text)?;
-        let exercise = mixed_as(&case.exercise, species_of_line(text)?);
-        if !exercise.is_valid() {
-            return Err("no valid species".into());
-        }
-        compare(rt, alloc, &exercise, &case.score, text, wanted)?;
-    }
-    Ok(())
+/// The marks of a setting.
+fn marks_in(alloc: Global, text: &str) -> Option<String> {
+    let (text, _) = parts(text)?;
+    let case = case_of(alloc, text)?;
+    marks_of(alloc, &case.exercise, &case.score)
 }
 
 #[test]
-fn mixed_settings_have_their_breaks(rt: HostRuntime) -> Result<(), Fail> {
-    mark_all(&rt, rt.alloc(), WORKED)?;
-    mark_all(&rt, rt.alloc(), JUDGED)
+fn mixed_settings_have_their_breaks(rt: HostRuntime) {
+    for table in [WORKED, JUDGED] {
+        for text in table.split("\n\n") {
+            let found = marks_in(rt.alloc(), text);
+            agree(&rt, text, found.as_deref(), wanted(text));
+        }
+    }
 }

@@ -1,6 +1,6 @@
 //! Worked lines, scores and orders.
 
-ghost use Rattle.std.specs.Prelude.{◌≡◌, IfOk, length};
+ghost use Rattle.std.specs.Prelude.{◌≡◌, IfSome, length};
 
 use crate::words::{number, word};
 use fux_grid::{
@@ -12,7 +12,6 @@ use std::alloc::Global;
 use std::cmp::Ordering;
 use std::fmt::Write;
 use std::str;
-use std::test::Fail;
 
 /// A line in voice 0 of two voices: rests, starts and holds of one pitch.
 const LINE: &[u8] = b"RRSHHHHHHHSHRRSSH";
@@ -28,13 +27,13 @@ fn column_of(letter: u8, pitch: Pitch) -> Column {
     column
 }
 
-fn line(alloc: Global) -> Result<Score, Fail> {
+fn line(alloc: Global) -> Option<Score> {
     let pitch = pitch_of("C4")?;
-    let mut score = Score::new(alloc, 2)?;
+    let mut score = Score::new(alloc, 2).ok()?;
     for letter in LINE {
-        score.push(column_of(*letter, pitch))?;
+        score.push(column_of(*letter, pitch)).ok()?;
     }
-    Ok(score)
+    Some(score)
 }
 
 /// Columns of that line, with the note that sounds there, the one before it and the one behind it:
@@ -48,27 +47,27 @@ column 12 = silent, at none, before 10+2, after 14+1
 column 14 = sounds, at 14+1, before 10+2, after 15+2
 column 16 = sounds, at 15+2, before 14+1, after none";
 
-fn add_note(text: &mut String, word: &str, note: Option<Note>) -> Result<(), Fail> {
+fn add_note(text: &mut String, word: &str, note: Option<Note>) -> Option<()> {
     match note {
-        Some(note) => write!(text, ", {word} {}+{}", note.start, note.len)?,
-        None => write!(text, ", {word} none")?,
+        Some(note) => write!(text, ", {word} {}+{}", note.start, note.len).ok()?,
+        None => write!(text, ", {word} none").ok()?,
     }
-    Ok(())
+    Some(())
 }
 
-fn notes_text(alloc: Global, score: &Score, i: usize) -> Result<String, Fail> {
+fn notes_text(alloc: Global, score: &Score, i: usize) -> Option<String> {
     if i >= score.len() {
-        return Err("no such column".into());
+        return None;
     }
     let sounds = sounding(score, 0, i).is_some();
-    let mut text = String::from_str(alloc, if sounds { "sounds" } else { "silent" })?;
+    let mut text = String::from_str(alloc, if sounds { "sounds" } else { "silent" }).ok()?;
     add_note(&mut text, "at", note_at(score, 0, i))?;
     add_note(&mut text, "before", prev_note(score, 0, i))?;
     add_note(&mut text, "after", next_note(score, 0, i))?;
-    Ok(text)
+    Some(text)
 }
 
-pub fn notes_at(alloc: Global, case: &str) -> Result<String, Fail> {
+pub fn notes_at(alloc: Global, case: &str) -> Option<String> {
     let i = usize::from(number(case, 1)?);
     let score = line(alloc)?;
     notes_text(alloc, &score, i)
@@ -79,15 +78,15 @@ pub const SHAPES: &str = "\
 bar 1 = RRSHHHHH
 bar 2 = HHSHRRSS";
 
-fn shape_text(alloc: Global, score: &Score, bar: u8) -> Result<String, Fail> {
+fn shape_text(alloc: Global, score: &Score, bar: u8) -> Option<String> {
     if bar == 0 || score.voices() == 0 || score.len() < 8 * usize::from(bar) {
-        return Err("no such bar".into());
+        return None;
     }
     let letters = shape(score, 0, bar);
-    Ok(String::from_str(alloc, str::from_utf8(&letters)?)?)
+    String::from_str(alloc, str::from_utf8(&letters).ok()?).ok()
 }
 
-pub fn shape_of(alloc: Global, case: &str) -> Result<String, Fail> {
+pub fn shape_of(alloc: Global, case: &str) -> Option<String> {
     let bar = number(case, 1)?;
     let score = line(alloc)?;
     shape_text(alloc, &score, bar)
@@ -95,14 +94,14 @@ pub fn shape_of(alloc: Global, case: &str) -> Result<String, Fail> {
 
 /// The cell of a word: `r`, `default`, or a pitch behind `+` where it starts and behind `-` where
 /// it is held.
-fn cell(word: &str) -> Result<Cell, Fail> {
+fn cell(word: &str) -> Option<Cell> {
     if let Some(name) = word.strip_prefix('+') {
-        return Ok(Cell::Start(pitch_of(name)?));
+        return Some(Cell::Start(pitch_of(name)?));
     }
     if let Some(name) = word.strip_prefix('-') {
-        return Ok(Cell::Hold(pitch_of(name)?));
+        return Some(Cell::Hold(pitch_of(name)?));
     }
-    Ok(if word == "default" {
+    Some(if word == "default" {
         Cell::default()
     } else {
         Cell::Rest
@@ -110,13 +109,13 @@ fn cell(word: &str) -> Result<Cell, Fail> {
 }
 
 /// The column of two words.
-fn column(case: &str) -> Result<Column, Fail>
-    ensures { IfOk result (λ column. length column.items ≡ 2) }
+fn column(case: &str) -> Option<Column>
+    ensures { IfSome result (λ column. length column.items ≡ 2) }
 {
     let mut column = Column::new();
     column.push(cell(word(case, 0)?)?);
     column.push(cell(word(case, 1)?)?);
-    Ok(column)
+    Some(column)
 }
 
 /// Columns that are added to a score of two voices, one after another, and what is said of the last
@@ -128,19 +127,19 @@ default +C4, -C4 -D4 = hold after rest in voice 0
 default +C4, +D4 -D4 = hold moved in voice 1
 none = not as many cells";
 
-fn told(alloc: Global, fault: GridFault) -> Result<String, Fail> {
+fn told(alloc: Global, fault: GridFault) -> Option<String> {
     let (words, voice) = match fault {
-        GridFault::Full => return Ok(String::from_str(alloc, "full")?),
-        GridFault::Voices => return Ok(String::from_str(alloc, "not as many cells")?),
+        GridFault::Full => return String::from_str(alloc, "full").ok(),
+        GridFault::Voices => return String::from_str(alloc, "not as many cells").ok(),
         GridFault::HoldAtStart { voice } => ("at start", voice),
         GridFault::HoldAfterRest { voice } => ("after rest", voice),
         GridFault::HoldMoved { voice } => ("moved", voice),
     };
-    Ok(format!(in alloc; "hold {words} in voice {voice}")?)
+    format!(in alloc; "hold {words} in voice {voice}").ok()
 }
 
-pub fn pushed(alloc: Global, case: &str) -> Result<String, Fail> {
-    let mut score = Score::new(alloc, 2)?;
+pub fn pushed(alloc: Global, case: &str) -> Option<String> {
+    let mut score = Score::new(alloc, 2).ok()?;
     let mut answer = Ok(());
     for text in case.split(", ") {
         answer = score.push(if text == "none" {
@@ -150,7 +149,7 @@ pub fn pushed(alloc: Global, case: &str) -> Result<String, Fail> {
         });
     }
     match answer {
-        Ok(()) => Ok(String::from_str(alloc, "taken")?),
+        Ok(()) => String::from_str(alloc, "taken").ok(),
         Err(fault) => told(alloc, fault),
     }
 }
@@ -177,11 +176,11 @@ fn sign(here: &Column, other: &Column) -> char
     }
 }
 
-pub fn orders(alloc: Global, case: &str) -> Result<String, Fail> {
+pub fn orders(alloc: Global, case: &str) -> Option<String> {
     let here = column(case)?;
     let mut signs = String::new(alloc);
     for line in ASCENDING.lines() {
-        signs.push(sign(&here, &column(line)?))?;
+        signs.push(sign(&here, &column(line)?)).ok()?;
     }
-    Ok(signs)
+    Some(signs)
 }

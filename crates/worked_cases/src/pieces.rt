@@ -1,8 +1,9 @@
 //! The tables of a small exercise, cut into pieces: their floors, and two threads that meet in a row.
 
-ghost use Rattle.std.specs.Prelude.{◌≡◌, IfOk};
+ghost use Rattle.std.specs.Prelude.{◌≡◌, IfSome};
 ghost use Rattle.fux_grid.specs.Exercises.{IsValid};
 
+use crate::agree::holds;
 use crate::floors::floor;
 use crate::meeting::Meeting;
 use floor_tables::{Tables, tables_cut};
@@ -10,7 +11,6 @@ use fux_grid::Exercise;
 use penalty_sheet::{Sheet, default_sheet};
 use short_scores::exercise_of;
 use std::alloc::Global;
-use std::test::Fail;
 use std::thread::Threads;
 
 /// Its menus have five columns and six.
@@ -38,41 +38,44 @@ fn cut<'a, R: Threads + Sync>(
     exercise: &'a Exercise<'a>,
     sheet: &'a Sheet,
     gate: &Meeting,
-) -> Result<Tables<'a>, Fail>
+) -> Option<Tables<'a>>
     requires valid { IsValid exercise.now }
-    ensures { IfOk result (λ t. t.exercise ≡ exercise.entry.now) }
+    ensures { IfSome result (λ t. t.exercise ≡ exercise.entry.now) }
 {
     match tables_cut(rt, alloc, exercise, sheet, 3, gate) {
-        Ok(tables) => Ok(tables),
-        Err(_) => Err("no tables".into()),
+        Ok(tables) => Some(tables),
+        Err(_) => None,
     }
 }
 
 /// Whether the floors are those of the table.
-fn has_floors(exercise: &Exercise, sheet: &Sheet, tables: &Tables<'_>) -> Result<bool, Fail>
+fn has_floors(exercise: &Exercise, sheet: &Sheet, tables: &Tables<'_>) -> Option<bool>
     requires valid { IsValid exercise.now }
     requires same { tables.now.exercise ≡ exercise.now }
 {
     if tables.start() != Some(0) {
-        return Ok(false);
+        return Some(false);
     }
     for (notes, from, to, wanted) in &FLOORS {
         for length in *from..=*to {
             if floor(exercise, sheet, tables, notes, length)? != *wanted {
-                return Ok(false);
+                return Some(false);
             }
         }
     }
-    Ok(true)
+    Some(true)
+}
+
+/// Whether the pieces of each row met, and the floors are those of the table.
+fn floors_stand<R: Threads + Sync>(rt: &R, alloc: Global) -> Option<bool> {
+    let exercise = exercise_of(alloc, TEXT, 2)?;
+    let sheet = default_sheet();
+    let meeting = Meeting::new(alloc, 24).ok()?;
+    let tables = cut(rt, alloc, &exercise, &sheet, &meeting)?;
+    Some(has_floors(&exercise, &sheet, &tables)? && meeting.met() > 0)
 }
 
 #[test]
-fn two_pieces_of_a_row_meet(rt: HostRuntime) -> Result<(), Fail> {
-    let exercise = exercise_of(rt.alloc(), TEXT, 2)?;
-    let sheet = default_sheet();
-    let meeting = Meeting::new(rt.alloc(), 24)?;
-    let tables = cut(&rt, rt.alloc(), &exercise, &sheet, &meeting)?;
-    assert!(rt; has_floors(&exercise, &sheet, &tables)?);
-    assert!(rt; meeting.met() > 0);
-    Ok(())
+fn two_pieces_of_a_row_meet(rt: HostRuntime) {
+    holds(&rt, TEXT, floors_stand(&rt, rt.alloc()).unwrap_or(false));
 }

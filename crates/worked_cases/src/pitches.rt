@@ -10,11 +10,10 @@ use fux_pitch::{
 use short_scores::{mode_of, pitch_of};
 use std::alloc::Global;
 use std::fmt::Write;
-use std::test::Fail;
 
 /// The word of this place in a case, as a number that may be below 0.
-fn signed(case: &str, place: usize) -> Result<i8, Fail> {
-    Ok(word(case, place)?.parse::<i8>()?)
+fn signed(case: &str, place: usize) -> Option<i8> {
+    word(case, place)?.parse::<i8>().ok()
 }
 
 /// Degrees with alterations, and the keys of those that are pitches.
@@ -37,21 +36,21 @@ degree 28 altered by 2 = no pitch
 degree 28 altered by -2 = no pitch
 degree 255 altered by 0 = no pitch";
 
-pub fn key_of(alloc: Global, case: &str) -> Result<String, Fail> {
+pub fn key_of(alloc: Global, case: &str) -> Option<String> {
     match Pitch::new(number(case, 1)?, signed(case, 4)?) {
-        Some(pitch) => Ok(format!(in alloc; "key {}", semitone(pitch))?),
-        None => Ok(String::from_str(alloc, "no pitch")?),
+        Some(pitch) => format!(in alloc; "key {}", semitone(pitch)).ok(),
+        None => String::from_str(alloc, "no pitch").ok(),
     }
 }
 
 /// A pitch, and its name.
-fn told(alloc: Global, pitch: Option<Pitch>) -> Result<String, Fail> {
+fn told(alloc: Global, pitch: Option<Pitch>) -> Option<String> {
     let Some(pitch) = pitch else {
-        return Ok(String::from_str(alloc, "no pitch")?);
+        return String::from_str(alloc, "no pitch").ok();
     };
     let (degree, alter, name) = (pitch.degree(), pitch.alter(), name(pitch));
     let name = name.as_str();
-    Ok(format!(in alloc; "{name}, degree {degree} altered by {alter}")?)
+    format!(in alloc; "{name}, degree {degree} altered by {alter}").ok()
 }
 
 /// Keys, and what they are spelled as.
@@ -77,7 +76,7 @@ key 23 = no pitch
 key 97 = no pitch
 key 255 = no pitch";
 
-pub fn spelling_of(alloc: Global, case: &str) -> Result<String, Fail> {
+pub fn spelling_of(alloc: Global, case: &str) -> Option<String> {
     told(alloc, spell(number(case, 1)?))
 }
 
@@ -109,20 +108,20 @@ pub const NAMES: &str = "\
 'C44' = no pitch
 'Cn4' = no pitch";
 
-pub fn named(alloc: Global, case: &str) -> Result<String, Fail> {
+pub fn named(alloc: Global, case: &str) -> Option<String> {
     told(alloc, parse_pitch(case.trim_matches('\'').as_bytes()))
 }
 
 /// A pitch in four columns, and as it is.
-pub fn twice(alloc: Global, case: &str) -> Result<String, Fail> {
+pub fn twice(alloc: Global, case: &str) -> Option<String> {
     let pitch = pitch_of(case)?;
-    Ok(format!(in alloc; "{pitch:>4} and {pitch}")?)
+    format!(in alloc; "{pitch:>4} and {pitch}").ok()
 }
 
 /// An interval, as `7 degrees, 12 semitones`.
-fn interval_text(alloc: Global, size: Interval) -> Result<String, Fail> {
+fn interval_text(alloc: Global, size: Interval) -> Option<String> {
     let (degrees, semitones) = (size.degrees, size.semitones);
-    Ok(format!(in alloc; "{degrees} degrees, {semitones} semitones")?)
+    format!(in alloc; "{degrees} degrees, {semitones} semitones").ok()
 }
 
 /// Intervals, and what they are reduced to.
@@ -139,7 +138,7 @@ pub const REDUCED: &str = "\
 -7 degrees, -11 semitones = 0 degrees, -1 semitones
 24 degrees, 41 semitones = 3 degrees, 5 semitones";
 
-fn reduced_text(alloc: Global, degrees: i8, semitones: i8) -> Result<String, Fail> {
+fn reduced_text(alloc: Global, degrees: i8, semitones: i8) -> Option<String> {
     let size = reduce(Interval {
         degrees: i16::from(degrees),
         semitones: i16::from(semitones),
@@ -147,7 +146,7 @@ fn reduced_text(alloc: Global, degrees: i8, semitones: i8) -> Result<String, Fai
     interval_text(alloc, size)
 }
 
-pub fn reduced(alloc: Global, case: &str) -> Result<String, Fail> {
+pub fn reduced(alloc: Global, case: &str) -> Option<String> {
     reduced_text(alloc, signed(case, 0)?, signed(case, 2)?)
 }
 
@@ -197,13 +196,13 @@ pub const CLASSES: &str = "\
 5 degrees = ........ii......
 6 degrees = ................";
 
-pub fn classes_of(alloc: Global, case: &str) -> Result<String, Fail> {
+pub fn classes_of(alloc: Global, case: &str) -> Option<String> {
     let degrees = number(case, 0)?;
     let mut classes = String::new(alloc);
     for semitones in 0..16 {
-        classes.push(class_of_all(degrees.min(7), semitones))?;
+        classes.push(class_of_all(degrees.min(7), semitones)).ok()?;
     }
-    Ok(classes)
+    Some(classes)
 }
 
 /// Two pitches, and the interval from the first to the second.
@@ -215,7 +214,7 @@ from F4 to B4 = 3 degrees, 6 semitones
 from B4 to F5 = 4 degrees, 6 semitones
 from C1 to C7 = 42 degrees, 72 semitones";
 
-pub fn between(alloc: Global, case: &str) -> Result<String, Fail> {
+pub fn between(alloc: Global, case: &str) -> Option<String> {
     let (from, to) = (pitch_of(word(case, 1)?)?, pitch_of(word(case, 3)?)?);
     interval_text(alloc, interval_of(from, to))
 }
@@ -229,10 +228,10 @@ mixolydian = final 4, leading 3 altered by 1
 aeolian = final 5, leading 4 altered by 1
 ionian = final 0, leading 6 altered by 0";
 
-pub fn final_of(alloc: Global, case: &str) -> Result<String, Fail> {
+pub fn final_of(alloc: Global, case: &str) -> Option<String> {
     let mode = mode_of(case)?;
     let (last, (before, alter)) = (final_letter(mode), leading(mode));
-    Ok(format!(in alloc; "final {last}, leading {before} altered by {alter}")?)
+    format!(in alloc; "final {last}, leading {before} altered by {alter}").ok()
 }
 
 /// Modes and bars of eight, and the pitches of the gamut from C4 on, of all that are sharp, flat or
@@ -249,41 +248,41 @@ aeolian in the bars 7 to 8 = C4 D4 E4 F4 F#4 G4 G#4 A4 Bb4 B4
 ionian in the bars 1 to 8 = C4 D4 E4 F4 G4 A4 Bb4 B4";
 
 /// Adds the pitch behind a space, if it is one of the bar.
-fn add_pitch(names: &mut String, mode: Mode, bar: u8, degree: u8, alter: i8) -> Result<(), Fail> {
-    let pitch = Pitch::new(degree, alter).ok_or("no pitch")?;
+fn add_pitch(names: &mut String, mode: Mode, bar: u8, degree: u8, alter: i8) -> Option<()> {
+    let pitch = Pitch::new(degree, alter)?;
     if 1 <= bar && bar <= 8 && in_gamut(mode, bar, 8, pitch) {
-        write!(names, " {pitch}")?;
+        write!(names, " {pitch}").ok()?;
     }
-    Ok(())
+    Some(())
 }
 
 /// The pitches of one bar, each behind a space.
-fn gamut(alloc: Global, mode: Mode, bar: u8) -> Result<String, Fail> {
+fn gamut(alloc: Global, mode: Mode, bar: u8) -> Option<String> {
     let mut names = String::new(alloc);
     for degree in 28..35 {
         for alter in [-1, 0, 1] {
             add_pitch(&mut names, mode, bar, degree, alter)?;
         }
     }
-    Ok(names)
+    Some(names)
 }
 
-fn has_gamut(alloc: Global, mode: Mode, bar: u8, names: &str) -> Result<bool, Fail> {
-    Ok(gamut(alloc, mode, bar)?.as_str() == names)
+fn has_gamut(alloc: Global, mode: Mode, bar: u8, names: &str) -> Option<bool> {
+    Some(gamut(alloc, mode, bar)?.as_str() == names)
 }
 
 /// The pitches that each of these bars has.
-fn common_gamut(alloc: Global, mode: Mode, first: u8, last: u8) -> Result<String, Fail> {
+fn common_gamut(alloc: Global, mode: Mode, first: u8, last: u8) -> Option<String> {
     let names = gamut(alloc, mode, first)?;
     for bar in first..=last {
         if !has_gamut(alloc, mode, bar, names.as_str())? {
-            return Ok(String::from_str(alloc, "not the same in all")?);
+            return String::from_str(alloc, "not the same in all").ok();
         }
     }
-    Ok(String::from_str(alloc, names.as_str().trim_start())?)
+    String::from_str(alloc, names.as_str().trim_start()).ok()
 }
 
-pub fn gamut_of(alloc: Global, case: &str) -> Result<String, Fail> {
+pub fn gamut_of(alloc: Global, case: &str) -> Option<String> {
     let mode = mode_of(word(case, 0)?)?;
     common_gamut(alloc, mode, number(case, 4)?, number(case, 6)?)
 }

@@ -19,10 +19,9 @@ use penalty_sheet::default_sheet;
 use short_scores::case_of;
 use std::alloc::Global;
 use std::process::Abort;
-use std::test::Fail;
 
 /// What is paid as a score is judged column by column.
-fn paid_of(ex: &Exercise, score: &Score) -> Result<u64, Fail>
+fn paid_of(ex: &Exercise, score: &Score) -> Option<u64>
     requires valid { IsValid ex.now }
     requires voices { score.now.voices ≡ ex.now.voices }
 {
@@ -31,30 +30,33 @@ fn paid_of(ex: &Exercise, score: &Score) -> Result<u64, Fail>
     let mut paid = 0u64;
     for i in 0..score.len() {
         if state.newest.len >= 8 * usize::from(ex.bars) {
-            return Err("too long".into());
+            return None;
         }
         let verdict = step(ex, &sheet, &state, score.column(i));
         paid = paid.saturating_add(verdict.paid);
         state = verdict.state;
     }
-    Ok(paid)
+    Some(paid)
 }
 
-/// That is paid of each setting of a table which is wanted.
-fn judge_all(rt: &impl Abort, alloc: Global, table: &str) -> Result<(), Fail> {
+/// Whether that is paid of a setting which is wanted.
+fn is_paid(alloc: Global, text: &str) -> Option<bool> {
+    let (text, wanted) = parts(text)?;
+    let case = case_of(alloc, text)?;
+    let wanted = wanted.trim().parse::<u64>().ok()?;
+    Some(paid_of(&case.exercise, &case.score)? == wanted)
+}
+
+fn judge_all(rt: &impl Abort, alloc: Global, table: &str) {
     for text in table.split("\n\n") {
-        let (text, wanted) = parts(text)?;
-        let case = case_of(alloc, text)?;
-        let wanted = wanted.trim().parse::<u64>()?;
-        holds(rt, text, paid_of(&case.exercise, &case.score)? == wanted);
+        holds(rt, text, is_paid(alloc, text).unwrap_or(false));
     }
-    Ok(())
 }
 
 #[test]
-fn that_is_paid_of_settings_which_is_wanted(rt: HostRuntime) -> Result<(), Fail> {
-    judge_all(&rt, rt.alloc(), tables::JUDGED)?;
-    judge_all(&rt, rt.alloc(), two_voices::JUDGED)?;
-    judge_all(&rt, rt.alloc(), three_voices::JUDGED)?;
-    judge_all(&rt, rt.alloc(), four_voices::JUDGED)
+fn that_is_paid_of_settings_which_is_wanted(rt: HostRuntime) {
+    judge_all(&rt, rt.alloc(), tables::JUDGED);
+    judge_all(&rt, rt.alloc(), two_voices::JUDGED);
+    judge_all(&rt, rt.alloc(), three_voices::JUDGED);
+    judge_all(&rt, rt.alloc(), four_voices::JUDGED);
 }
