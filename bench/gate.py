@@ -1,7 +1,8 @@
 #!/usr/bin/env python3
 """Runs the gate and counts what each crate takes of it.
 
-    python3 bench/gate.py [--page] [--counts FILE] [--from FILE] [words of rt ci, as --anew]
+    python3 bench/gate.py [--page] [--counts FILE] [--from FILE] [--beside COMMIT ..]
+                          [words of rt ci, as --anew]
 
 It starts `rt ci` with those words at the top of the repository, passes on what that prints, and
 looks at the processes below it twice a second. A process that works on a crate says so by its
@@ -13,8 +14,10 @@ that who compares two runs sees how fast the machine was in each. Where RT_JOBS 
 proofs `rt ci` makes side by side, each of them has one processor.
 
 --counts FILE keeps the counts, --from FILE takes kept ones in place of a run, and --page writes
-the table into docs/gate.md, between its two lines that begin with `<!-- run`. The status is that
-of `rt ci`.
+the table into docs/gate.md, between its two lines that begin with `<!-- run`. --beside COMMIT
+compares the run with the one that docs/gate.md tells in that commit, by what the proofs took of
+those crates whose files are the same: so a run on a slow machine says what it would take on
+another one. The status is that of `rt ci`.
 """
 import collections
 import json
@@ -175,7 +178,41 @@ def pace_of(paces):
     ]
 
 
-def table(told):
+def git(*words):
+    """What git says."""
+    ran = subprocess.run(["git", *words], cwd=TOP, stdout=subprocess.PIPE, text=True, check=True)
+    return ran.stdout
+
+
+def files_of(commit, name):
+    """What tells whether a library's proof reads the same files in two commits. A program's proof
+    reads all that it links too, so it isn't compared."""
+    told = git("ls-tree", commit, f"crates/{name}/").split("\n")
+    return [it for it in told if it.split("/")[-1] in ("src", "specs", "proofs")]
+
+
+def is_library(name):
+    return os.path.exists(os.path.join(TOP, "crates", name, "src", "lib.rt"))
+
+
+def beside(told, commit):
+    """The sentence that compares a run with the one that the page of a commit tells."""
+    page = git("show", f"{commit}:docs/gate.md")
+    day, whole = re.search(r"On (.*?), `.*?` took ([0-9.]+) processor minutes", page).groups()
+    rows = re.findall(r"^\| `(\w+)` \| [0-9]+ \| ([0-9]+) \| [0-9]+ \|", page, re.M)
+    then = {name: int(seconds) for name, seconds in rows if name in told["seconds"]}
+    same = [it for it in then if is_library(it) and files_of(commit, it) == files_of("HEAD", it)]
+    if not same:
+        return f"No crate has the files that it had in the run of {whole} minutes on {day}."
+    old, new = sum(then[it] for it in same), sum(told["seconds"][it][0] for it in same)
+    return (
+        f"The {len(same)} crates whose files are as in the run of {whole} minutes on {day} took "
+        f"{old} seconds then and {new:.0f} here: by those seconds the whole is "
+        f"{told['whole'] / 60 * old / new:.0f} minutes."
+    )
+
+
+def table(told, commits):
     """The text of a run: a sentence for the whole, and a row for each crate."""
     rows, sums = [], [0, 0, 0]
     for name in crates():
@@ -189,6 +226,7 @@ def table(told):
         f"{told['minutes']:.1f} minutes on {told['processors']} processors, with {told['kit']}.",
         f"Its last line was `{told['last'][-1] if told['last'] else ''}`.",
         *pace_of(told.get("paces")),
+        *[beside(told, it) for it in commits],
         "The table has processor seconds.",
         "",
         "| Crate | Wrong bodies | Proof and tests | Their checks | All |",
@@ -216,10 +254,13 @@ def write_page(text):
 
 
 def main():
-    words, options = sys.argv[1:], {}
-    while words and words[0] in ("--page", "--counts", "--from"):
+    words, options, commits = sys.argv[1:], {}, []
+    while words and words[0] in ("--page", "--counts", "--from", "--beside"):
         name = words.pop(0)
-        options[name] = words.pop(0) if name != "--page" else ""
+        if name == "--beside":
+            commits.append(words.pop(0))
+        else:
+            options[name] = words.pop(0) if name != "--page" else ""
     if "--from" in options:
         with open(options["--from"], encoding="utf-8") as it:
             told = json.load(it)
@@ -228,7 +269,7 @@ def main():
     if "--counts" in options:
         with open(options["--counts"], "w", encoding="utf-8") as it:
             json.dump(told, it)
-    text = table(told)
+    text = table(told, commits)
     if "--page" in options:
         write_page(text)
     else:
