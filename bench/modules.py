@@ -3,6 +3,8 @@
 
     python3 bench/modules.py FOLDER [HOW MANY]
 
+The seconds are of the clock, so nothing else should run beside the check.
+
 FOLDER is one that a check of the crate filled from nothing with one job, as its `out/incremental`
 behind a first `rt check --jobs 1`: it has a file for each module that was checked, and what
 passed since the file before is what a module took. `--progress` tells of a function only when it
@@ -54,6 +56,8 @@ def write(title, taken, count):
 
 
 def main():
+    if len(sys.argv) < 2:
+        sys.exit(__doc__)
     folder, count = sys.argv[1], int(sys.argv[2]) if len(sys.argv) > 2 else 20
     kinds, functions, each = (collections.Counter() for _ in range(3))
     for seconds, module in modules(folder):
